@@ -1,0 +1,62 @@
+-- Laws of a search from the front of a list, once for every search loop. Assumes nothing.
+use mathlib.Core.Path.{_≡_, refl, sym, ap, _∙_}
+use mathlib.Core.Bool.{Bool, true, false, cond}
+use mathlib.Core.List.{List, [], _∷_}
+use Prim.Native.Nat.{ℕ, zero, suc, _+_, _<_, _≤_}
+use native.Mathlib.Nat.{add-zero, add-suc, suc-add, zero-add, not-suc-le-zero, le-of-suc-le-suc}
+use native.Mathlib.Numerals.{add-one}
+use native.Mathlib.Omega.{arith}
+use lib.ListN.{length, getD, set, drop, drop-of-length-le}
+use lib.Seq.{drop-cons}
+use Rattle.common.specs.First.{firstOf}
+
+-- the loop's invariant: the test fails at every place before k
+abbrev pub Passed : {A : Type 0} → (A → Bool) → List A → ℕ → Type 0
+Passed f l k = firstOf f l ≡ k + firstOf f (drop k l)
+
+pub begin : {A : Type 0} (f : A → Bool) (l : List A) → Passed f l 0
+begin f l = sym (zero-add (firstOf f l))
+
+module _ {A : Type 0} (f : A → Bool) (l : List A) (d : A) (k n : ℕ) (z : length l ≡ n) where
+  -- the test fails at k: one place more is passed
+  pub pass : k < n → f (getD l k d) ≡ false → Passed f l k → Passed f l (k + 1)
+  unfolding firstOf
+  pass h u p = p ∙ rw (add-one, drop-cons l k d (omega arith), u, add-suc, suc-add)
+
+  -- the test holds at k: k is the first place
+  pub stop : k < n → f (getD l k d) ≡ true → Passed f l k → k ≡ firstOf f l
+  unfolding firstOf
+  stop h u p = sym (p ∙ rw (drop-cons l k d (omega arith), u, add-zero))
+
+  -- every place is passed: the test holds at none
+  pub none : k ≡ n → Passed f l k → n ≡ firstOf f l
+  unfolding firstOf
+  none h p = sym (p ∙ rw (drop-of-length-le l {i = k} (omega arith), add-zero) h)
+
+-- the place is within the list, or is its length
+pub first-within : {A : Type 0} (f : A → Bool) (l : List A) → firstOf f l ≤ length l
+unfolding firstOf
+first-within f [] = omega arith
+first-within f (x ∷ xs) = by (f x) (first-within f xs)
+  where
+    by : (b : Bool) → firstOf f xs ≤ length xs → cond b 0 (suc (firstOf f xs)) ≤ length (x ∷ xs)
+    by true h = omega arith
+    by false h = omega arith
+
+-- at the place that is found the test holds
+pub first-holds : {A : Type 0} (f : A → Bool) (l : List A) (d : A) → firstOf f l < length l → f (getD l (firstOf f l) d) ≡ true
+unfolding firstOf
+first-holds f [] d h = absurd (not-suc-le-zero h)
+first-holds f (x ∷ xs) d h = by (f x) refl (λ g. first-holds f xs d g) h
+  where
+    by : (b : Bool) → f x ≡ b → (firstOf f xs < length xs → f (getD xs (firstOf f xs) d) ≡ true)
+        → cond b 0 (suc (firstOf f xs)) < length (x ∷ xs) → f (getD (x ∷ xs) (cond b 0 (suc (firstOf f xs))) d) ≡ true
+    by true e r g = e
+    by false e r g = r (le-of-suc-le-suc g)
+
+-- a store that the test cannot tell leaves the place
+pub first-set : {A : Type 0} (f : A → Bool) (l : List A) (d : A) (k : ℕ) (y : A) → f y ≡ f (getD l k d) → firstOf f (set l k y) ≡ firstOf f l
+unfolding firstOf
+first-set f [] d k y h = refl
+first-set f (x ∷ xs) d zero y h = rw h
+first-set f (x ∷ xs) d (suc k) y h = rw (first-set f xs d k y h)

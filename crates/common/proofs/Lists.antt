@@ -1,0 +1,40 @@
+-- Laws of lists: a part to the end, a whole copy, padding. Assumes nothing.
+use mathlib.Core.Path.{_≡_, _∙_}
+use mathlib.Core.List.{List, [], _∷_, _++_, append-nil}
+use Prim.Native.Nat.{ℕ, zero, suc, _-_, min}
+use native.Mathlib.Nat.{zero-add}
+use native.Mathlib.Omega.{arith}
+use lib.ListN.{length, drop, take, replicate, length-drop, length-take, length-append, length-replicate, drop-of-length-le}
+use lib.Seq.{paste, take-all, take-append-le}
+use Rattle.common.specs.Bytes.{Bytes}
+use Rattle.common.specs.Text.{padded}
+
+-- the part of a list from a place to its end
+pub part-to-end : {A : Type 0} (l : List A) (i n : ℕ) → length l ≡ n → take (n - i) (drop i l) ≡ drop i l
+part-to-end l i n h = take-all (n - i) (drop i l) (simp length-drop (omega arith))
+
+-- a copy between lists of one length
+pub copy-whole : (d s : List ℕ) → length d ≡ length s → paste d 0 s (min (length d) (length s)) ≡ s
+copy-whole d s h =
+    let m : min (length d) (length s) ≡ length s = omega arith in
+    rw (m, zero-add, drop-of-length-le d {i = length s} (omega arith), append-nil, take-all (length s) s (omega arith))
+
+-- a list of n is its own padding to n
+pub padded-whole : (n : ℕ) (l : List ℕ) → length l ≡ n → padded n l ≡ l
+unfolding padded
+padded-whole n l h = take-append-le n l _ (omega arith) ∙ take-all n l (omega arith)
+
+pub length-padded : (n : ℕ) (l : List ℕ) → length (padded n l) ≡ n
+unfolding padded
+length-padded n l = simp (length-take, length-append, length-replicate) (omega arith)
+
+front : (n : ℕ) (l : List ℕ) (k : ℕ) → Bytes l → Bytes (take n (l ++ replicate k 0))
+unfolding Bytes
+front zero l k h = tt
+front (suc n) (x ∷ xs) k h = (h .0, front n xs k (h .1))
+front (suc n) [] zero h = tt
+front (suc n) [] (suc k) h = (omega arith, front n [] k tt)
+
+pub bytes-padded : (n : ℕ) (l : List ℕ) → Bytes l → Bytes (padded n l)
+unfolding padded
+bytes-padded n l h = front n l n h

@@ -1,0 +1,4 @@
+pub mod Kind
+pub mod Text
+pub mod Message
+pub mod Codec

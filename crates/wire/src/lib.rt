@@ -1,0 +1,354 @@
+// The ten-byte messages of the service line (source 000; document 01, "Ten bytes").
+mod text;
+
+ghost use mathlib.Core.Path.{_≡_};
+ghost use mathlib.Core.List.{_∷_, [], _++_};
+ghost use lib.ListN.{length, drop};
+ghost use Rattle.common.specs.Bytes.{highFirst};
+ghost use Rattle.wire.specs.Kind.{kindOf};
+ghost use Rattle.wire.specs.Message.{isOp, isPut, isMessage, bytesOf};
+ghost use Rattle.wire.specs.Codec.{written, writeOf, numberOf, errorAt, replyOf, candidateOf, readOf};
+
+// Why a request was refused.
+pub enum Reason {
+    Reset,
+    Count,
+    Unk,
+    Inval,
+    Pid,
+    Unsup,
+    Notstop,
+}
+
+// What the first byte of a request says.
+pub enum Kind {
+    Tmget,
+    Tmput,
+    Tproc,
+    Tstatus,
+    Trnote,
+    Tstop,
+    Tstart,
+    Tcondbreak,
+    Unsupported,
+    Unknown,
+}
+
+// The data of a Tmput.
+pub struct Data4 {
+    pub b0: u8,
+    pub b1: u8,
+    pub b2: u8,
+    pub b3: u8,
+}
+
+// The data of an Rmget.
+pub struct Data9 {
+    pub b0: u8,
+    pub b1: u8,
+    pub b2: u8,
+    pub b3: u8,
+    pub b4: u8,
+    pub b5: u8,
+    pub b6: u8,
+    pub b7: u8,
+    pub b8: u8,
+}
+
+// Every message, and some values that are none: an n too large, data beyond n, an op or a val that the rules forbid.
+pub enum Message {
+    Tmget { addr: u32, n: u8 },
+    Tmput { addr: u32, n: u8, data: Data4 },
+    Tproc { pid: u32 },
+    Tstatus { pid: u32 },
+    Trnote { pid: u32 },
+    Tstop { pid: u32 },
+    Tstart { pid: u32 },
+    Tcondbreak { val: u32, op: u8 },
+    Rerr { reason: Reason },
+    Rmget { data: Data9 },
+    Rmput,
+    Rproc { addr: u32 },
+    Rstatus { state: u8 },
+    Rrnote,
+    Rstop,
+    Rstart,
+    Rcondbreak,
+}
+
+// What reading finds.
+pub enum Reading {
+    Accepted(Message),
+    WrongSize,
+    NoMessage,
+}
+
+// What the first byte of a request decides.
+pub fn kind_of(t: u8) -> Kind
+    ensures { λ r. ⌜ r ≡ kindOf t ⌝ }
+{
+    match t {
+        2 => Kind::Tmget,
+        4 => Kind::Tmput,
+        6 => Kind::Tproc,
+        8 => Kind::Tstatus,
+        10 => Kind::Trnote,
+        12 => Kind::Tstop,
+        14 => Kind::Tstart,
+        16 => Kind::Tcondbreak,
+        18 | 22 => Kind::Unsupported,
+        0..=17 | 19..=21 | 23..=255 => Kind::Unknown,
+    }
+}
+
+// The letter is one of the eleven, and val is zero where it is unused.
+fn is_op(val: u32, op: u8) -> bool
+    ensures { λ r. ⌜ r ≡ isOp val op ⌝ }
+{
+    match op {
+        b'n' | b'k' | b'p' | b'b' | b'd' => true,
+        b'*' | b'&' | b'=' | b'!' | b'a' | b'o' => val == 0,
+        _ => false,
+    }
+}
+
+// n is at most 4, and the data beyond n is zero.
+fn is_put(n: u8, d: Data4) -> bool
+    ensures { λ r. ⌜ r ≡ isPut n d ⌝ }
+{
+    if 4 < n {
+        return false;
+    }
+    let bytes = [d.b0, d.b1, d.b2, d.b3];
+    let from = n as usize;
+    common::all_zero(&bytes[from..])
+}
+
+// Whether a value of Message is a message.
+pub fn is_message(m: Message) -> bool
+    ensures { λ r. ⌜ r ≡ isMessage m ⌝ }
+{
+    match m {
+        Message::Tmget { addr: _, n } => n <= 9,
+        Message::Tmput { addr: _, n, data } => is_put(n, data),
+        Message::Tcondbreak { val, op } => is_op(val, op),
+        _ => true,
+    }
+}
+
+// A type byte, a number of four bytes, and five bytes.
+fn with_word(t: u8, v: u32, a: u8, b: u8, c: u8, d: u8, e: u8) -> [u8; 10]
+    ensures { λ r. ⌜ r ≡ t ∷ highFirst 4 v ++ (a ∷ b ∷ c ∷ d ∷ e ∷ []) ⌝ }
+{
+    let v1 = v / 256;
+    let v2 = v1 / 256;
+    let v3 = v2 / 256;
+    [
+        t,
+        (v3 % 256) as u8,
+        (v2 % 256) as u8,
+        (v1 % 256) as u8,
+        (v % 256) as u8,
+        a,
+        b,
+        c,
+        d,
+        e,
+    ]
+}
+
+// A type byte and a text of nine.
+fn with_text(t: u8, text: [u8; 9]) -> [u8; 10]
+    ensures { λ r. ⌜ r ≡ t ∷ text ⌝ }
+{
+    [
+        t,
+        text[0],
+        text[1],
+        text[2],
+        text[3],
+        text[4],
+        text[5],
+        text[6],
+        text[7],
+        text[8],
+    ]
+}
+
+// The ten bytes of a message.
+pub fn bytes_of(m: Message) -> [u8; 10]
+    ensures { λ r. ⌜ r ≡ bytesOf m ⌝ }
+{
+    match m {
+        Message::Tmget { addr, n } => with_word(2, addr, n, 0, 0, 0, 0),
+        Message::Tmput { addr, n, data } => {
+            with_word(4, addr, n, data.b0, data.b1, data.b2, data.b3)
+        }
+        Message::Tproc { pid } => with_word(6, pid, 0, 0, 0, 0, 0),
+        Message::Tstatus { pid } => with_word(8, pid, 0, 0, 0, 0, 0),
+        Message::Trnote { pid } => with_word(10, pid, 0, 0, 0, 0, 0),
+        Message::Tstop { pid } => with_word(12, pid, 0, 0, 0, 0, 0),
+        Message::Tstart { pid } => with_word(14, pid, 0, 0, 0, 0, 0),
+        Message::Tcondbreak { val, op } => with_word(16, val, op, 0, 0, 0, 0),
+        Message::Rerr { reason } => with_text(1, text::reason_text(reason)),
+        Message::Rmget { data } => [
+            3,
+            data.b0,
+            data.b1,
+            data.b2,
+            data.b3,
+            data.b4,
+            data.b5,
+            data.b6,
+            data.b7,
+            data.b8,
+        ],
+        Message::Rmput => with_text(5, [0; 9]),
+        Message::Rproc { addr } => with_text(7, text::address_text(addr)),
+        Message::Rstatus { state } => with_text(9, text::state_text(state)),
+        Message::Rrnote => with_text(11, [0; 9]),
+        Message::Rstop => with_text(13, [0; 9]),
+        Message::Rstart => with_text(15, [0; 9]),
+        Message::Rcondbreak => with_text(17, [0; 9]),
+    }
+}
+
+// Writes a message's ten bytes into the buffer. The answer is the number: 0, 2 for a buffer that is not ten bytes, 7 for
+// what is no message. A refusal writes nothing.
+pub fn write(m: Message, buffer: &mut [u8]) -> u8
+    ensures { λ r. ⌜ written r (now (buffer .exit)) ≡ writeOf m (now (buffer .entry)) ⌝ }
+{
+    if buffer.len() != 10 {
+        return 2;
+    }
+    if !is_message(m) {
+        return 7;
+    }
+    let bytes = bytes_of(m);
+    common::copy(buffer, &bytes);
+    0
+}
+
+// The paper's number of an answer.
+pub fn number_of(r: Reading) -> u8
+    ensures { λ n. ⌜ n ≡ numberOf r ⌝ }
+{
+    match r {
+        Reading::Accepted(_) => 0,
+        Reading::WrongSize => 2,
+        Reading::NoMessage => 7,
+    }
+}
+
+// The nine bytes after the type.
+fn text_of(s: &[u8]) -> [u8; 9]
+    requires { ⌜ length (now s) ≡ 10 ⌝ }
+    ensures { λ r. ⌜ r ≡ drop 1 (now (s .entry)) ⌝ }
+{
+    [s[1], s[2], s[3], s[4], s[5], s[6], s[7], s[8], s[9]]
+}
+
+// The error with the reason at a place among the seven.
+fn error_at(place: usize) -> Reading
+    ensures { λ r. ⌜ r ≡ errorAt place ⌝ }
+{
+    let reason = match place {
+        0 => Reason::Reset,
+        1 => Reason::Count,
+        2 => Reason::Unk,
+        3 => Reason::Inval,
+        4 => Reason::Pid,
+        5 => Reason::Unsup,
+        6 => Reason::Notstop,
+        _ => return Reading::NoMessage,
+    };
+    Reading::Accepted(Message::Rerr { reason })
+}
+
+// The reply that ten bytes can be, by the type byte.
+fn reply_of(s: &[u8]) -> Reading
+    requires { ⌜ length (now s) ≡ 10 ⌝ }
+    ensures { λ r. ⌜ r ≡ replyOf (now (s .entry)) ⌝ }
+{
+    let t = s[0];
+    match t {
+        1 => error_at(text::reason_place(text_of(s))),
+        3 => Reading::Accepted(Message::Rmget {
+            data: Data9 {
+                b0: s[1],
+                b1: s[2],
+                b2: s[3],
+                b3: s[4],
+                b4: s[5],
+                b5: s[6],
+                b6: s[7],
+                b7: s[8],
+                b8: s[9],
+            },
+        }),
+        5 => Reading::Accepted(Message::Rmput),
+        7 => Reading::Accepted(Message::Rproc {
+            addr: text::address_of(text_of(s)),
+        }),
+        9 => Reading::Accepted(Message::Rstatus {
+            state: text::state_of(text_of(s)),
+        }),
+        11 => Reading::Accepted(Message::Rrnote),
+        13 => Reading::Accepted(Message::Rstop),
+        15 => Reading::Accepted(Message::Rstart),
+        17 => Reading::Accepted(Message::Rcondbreak),
+        _ => Reading::NoMessage,
+    }
+}
+
+// The message that ten bytes can be, field by field.
+fn candidate(s: &[u8]) -> Reading
+    requires { ⌜ length (now s) ≡ 10 ⌝ }
+    ensures { λ r. ⌜ r ≡ candidateOf (now (s .entry)) ⌝ }
+{
+    let v = common::word(s[1], s[2], s[3], s[4]);
+    let k = kind_of(s[0]);
+    match k {
+        Kind::Tmget => Reading::Accepted(Message::Tmget { addr: v, n: s[5] }),
+        Kind::Tmput => Reading::Accepted(Message::Tmput {
+            addr: v,
+            n: s[5],
+            data: Data4 {
+                b0: s[6],
+                b1: s[7],
+                b2: s[8],
+                b3: s[9],
+            },
+        }),
+        Kind::Tproc => Reading::Accepted(Message::Tproc { pid: v }),
+        Kind::Tstatus => Reading::Accepted(Message::Tstatus { pid: v }),
+        Kind::Trnote => Reading::Accepted(Message::Trnote { pid: v }),
+        Kind::Tstop => Reading::Accepted(Message::Tstop { pid: v }),
+        Kind::Tstart => Reading::Accepted(Message::Tstart { pid: v }),
+        Kind::Tcondbreak => Reading::Accepted(Message::Tcondbreak { val: v, op: s[5] }),
+        Kind::Unsupported => Reading::NoMessage,
+        Kind::Unknown => reply_of(s),
+    }
+}
+
+// Reads the message whose ten bytes these are: the one that they can be, if writing it gives them again.
+pub fn read(s: &[u8]) -> Reading
+    ensures { λ r. ⌜ r ≡ readOf (now (s .entry)) ⌝ }
+{
+    if s.len() != 10 {
+        return Reading::WrongSize;
+    }
+    let found = candidate(s);
+    let Reading::Accepted(m) = found else {
+        return found;
+    };
+    if !is_message(m) {
+        return Reading::NoMessage;
+    }
+    let bytes = bytes_of(m);
+    if common::equal(&bytes, s) {
+        found
+    } else {
+        Reading::NoMessage
+    }
+}
