@@ -2,6 +2,7 @@
 use mathlib.Core.Path.{_≡_, refl, sym, ap, _∙_}
 use mathlib.Core.Bool.{Bool, true, false, cond}
 use mathlib.Core.List.{List, [], _∷_}
+use mathlib.Core.Logic.{_⊎_, inl, inr, ⊎-elim}
 use Prim.Native.Nat.{ℕ, zero, suc, _+_, _<_, _≤_}
 use native.Mathlib.Nat.{add-zero, add-suc, suc-add, zero-add, not-suc-le-zero, le-of-suc-le-suc}
 use native.Mathlib.Numerals.{add-one}
@@ -9,6 +10,7 @@ use native.Mathlib.Omega.{arith}
 use lib.ListN.{length, getD, set, drop, drop-of-length-le}
 use lib.Seq.{drop-cons}
 use Rattle.common.specs.First.{firstOf}
+use Rattle.common.proofs.Cases.{on-test}
 
 -- the loop's invariant: the test fails at every place before k
 abbrev pub Passed : {A : Type 0} → (A → Bool) → List A → ℕ → Type 0
@@ -60,3 +62,23 @@ unfolding firstOf
 first-set f [] d k y h = refl
 first-set f (x ∷ xs) d zero y h = rw h
 first-set f (x ∷ xs) d (suc k) y h = rw (first-set f xs d k y h)
+
+-- the place that is found is not after one at which the test holds
+pub first-le : {A : Type 0} (f : A → Bool) (l : List A) (d : A) (j : ℕ) → j < length l → f (getD l j d) ≡ true → firstOf f l ≤ j
+unfolding firstOf
+first-le f [] d j h e = absurd (not-suc-le-zero h)
+first-le f (x ∷ xs) d zero h e = rw e (omega arith)
+first-le f (x ∷ xs) d (suc j) h e = by (f x) (first-le f xs d j (le-of-suc-le-suc h) e)
+  where
+    by : (b : Bool) → firstOf f xs ≤ j → cond b 0 (suc (firstOf f xs)) ≤ suc j
+    by true h = omega arith
+    by false h = omega arith
+
+-- a store to a place where the test fails: that place is found now, or the one that was found before
+pub first-new : {A : Type 0} (f : A → Bool) (l : List A) (d : A) (k : ℕ) (y : A) → f (getD l k d) ≡ false
+    → (firstOf f (set l k y) ≡ k) ⊎ (firstOf f (set l k y) ≡ firstOf f l)
+unfolding firstOf
+first-new f [] d k y e = inr refl
+first-new f (x ∷ xs) d zero y e = on-test (f y) (λ h. inl (rw h)) (λ h. inr (rw (h, e)))
+first-new f (x ∷ xs) d (suc k) y e =
+    on-test (f x) (λ h. inr (rw h)) (λ h. rw h (⊎-elim (λ p. inl (ap suc p)) (λ p. inr (ap suc p)) (first-new f xs d k y e)))

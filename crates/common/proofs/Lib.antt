@@ -1,4 +1,6 @@
 pub mod Bytes
+pub mod Cases
+pub mod Division
 pub mod Every
 pub mod First
 pub mod Keys

@@ -4,9 +4,10 @@ use mathlib.Core.List.{List, [], _∷_}
 use Prim.Native.Nat.{ℕ, zero, suc, _<_}
 use native.Mathlib.Nat.{not-suc-le-zero, le-of-suc-le-suc}
 use native.Mathlib.Omega.{arith}
-use lib.ListN.{length, getD}
-use lib.Seq.{ext-getD}
+use lib.ListN.{length, getD, set, length-set}
+use lib.Seq.{ext-getD, getD-set-same, getD-set-other}
 use Rattle.common.specs.Tab.{tab}
+use Rattle.common.proofs.Cases.{on-same}
 
 module _ {A : Type 0} where
   pub length-tab : (n : ℕ) (f : ℕ → A) → length (tab n f) ≡ n
@@ -39,3 +40,14 @@ module _ {A : Type 0} where
   unfolding tab
   tab-ext zero f g h = refl
   tab-ext (suc n) f g h = rw (h 0 (omega arith), tab-ext n (λ i. f (suc i)) (λ i. g (suc i)) (λ i k. h (suc i) (omega arith)))
+
+-- a store into the list: the functions differ at most there
+pub tab-set : (n : ℕ) (f g : ℕ → ℕ) (k v : ℕ) → g k ≡ v → ((i : ℕ) → i < n → (i ≡ k → ⊥) → f i ≡ g i) → set (tab n f) k v ≡ tab n g
+tab-set n f g k v e h =
+    tab-is (set (tab n f) k v) n g 0 (length-set (tab n f) k v ∙ length-tab n f)
+    (λ i l. on-same i k (λ s. here i l s) (λ s. getD-set-other (tab n f) k i v 0 s ∙ tab-at n f 0 i l ∙ h i l s))
+  where
+    here : (i : ℕ) → i < n → i ≡ k → getD (set (tab n f) k v) i 0 ≡ g i
+    here i l s =
+        let z : k < length (tab n f) = omega (arith, length-tab n f) in
+        rw s (getD-set-same (tab n f) k v 0 z ∙ sym e)

@@ -1,0 +1,138 @@
+-- Laws of the truth of a condition: the definitions case by case, as the code comes to them. Assumes nothing.
+use mathlib.Core.Path.{_≡_, sym, ap, _∙_}
+use mathlib.Core.Bool.{Bool, true, false, not, _&&_, _||_}
+use mathlib.Core.List.{List, [], _∷_}
+use Prim.Native.Nat.{ℕ, _+_, _-_, _<_, _≤_}
+use borrow.Author.Tests.{ne-eqb, le-leb, lt-leb}
+use lib.Bits.{bitAnd}
+use lib.Dec.{eqb}
+use lib.ListN.{length, getD, take, drop}
+use Rattle.common.specs.Bytes.{ofHighFirst}
+use Rattle.memory.specs.Overlay.{plainAt}
+use Rattle.target.specs.declared.Element.{Element}
+use Rattle.target.specs.Fresh.{noElement}
+use Rattle.condition.specs.Evaluate.{top, rest, flag, truth, joinOf, isOutside, wordOf, escapes, stackAfter}
+use Rattle.condition.specs.Evaluate.{evalFrom, evaluateOf, fetchOf}
+use Rattle.condition.specs.declared.Fetched.{Fetched}
+use Rattle.condition.specs.declared.Fetched.the-variants.{Word, Outside}
+use Rattle.condition.proofs.Depth.{next-element, no-element}
+
+-- ---- one value of two
+
+module _ (letter x y r : ℕ) where
+  pub join-bits : letter ≡ 38 → r ≡ bitAnd x y → r ≡ joinOf letter x y
+  unfolding joinOf
+  join-bits e h = rw e h
+
+  pub join-eq : letter ≡ 61 → r ≡ flag (eqb x y) → r ≡ joinOf letter x y
+  unfolding joinOf
+  join-eq e h = rw e h
+
+  pub join-ne : letter ≡ 33 → r ≡ flag (not (eqb x y)) → r ≡ joinOf letter x y
+  unfolding joinOf
+  join-ne e h = rw e h
+
+  pub join-and : (f : Bool) → letter ≡ 97 → f ≡ (truth x && truth y) → r ≡ flag f → r ≡ joinOf letter x y
+  unfolding joinOf
+  join-and f e g h = rw (e, ← g) h
+
+  pub join-or : (f : Bool) → (letter ≡ 38 → ⊥) → (letter ≡ 61 → ⊥) → (letter ≡ 33 → ⊥) → (letter ≡ 97 → ⊥)
+      → f ≡ (truth x || truth y) → r ≡ flag f → r ≡ joinOf letter x y
+  unfolding joinOf
+  join-or f a b c d g h = rw (ne-eqb letter 38 a, ne-eqb letter 61 b, ne-eqb letter 33 c, ne-eqb letter 97 d, ← g) h
+
+-- the two ways through `x != 0 && y != 0` and through `x != 0 || y != 0`
+module _ (x y : ℕ) (f : Bool) where
+  pub and-on : (x ≡ 0 → ⊥) → f ≡ truth y → f ≡ (truth x && truth y)
+  and-on h e = rw (ne-eqb x 0 h) e
+
+  pub and-off : x ≡ 0 → f ≡ truth x → f ≡ (truth x && truth y)
+  and-off h e = e ∙ rw h
+
+  pub or-off : (x ≡ 0 → ⊥) → f ≡ truth x → f ≡ (truth x || truth y)
+  or-off h e = e ∙ rw (ne-eqb x 0 h)
+
+  pub or-on : x ≡ 0 → f ≡ truth y → f ≡ (truth x || truth y)
+  or-on h e = rw h e
+
+-- ---- one element
+
+-- a letter that reads no memory
+pub stays : (read : ℕ → Fetched) (letter : ℕ) (st : List ℕ) → (letter ≡ 42 → ⊥) → false ≡ escapes read letter st
+unfolding escapes
+stays read letter st h = rw (ne-eqb letter 42 h)
+
+-- `*` at y, the top: outside the window, or a word
+module _ (read : ℕ → Fetched) (letter : ℕ) (st : List ℕ) (y : ℕ) (found : Fetched)
+    (e : letter ≡ 42) (py : y ≡ top st) (pf : found ≡ read y) where
+  pub load-out : found ≡ Outside → true ≡ escapes read letter st
+  unfolding escapes isOutside
+  load-out h = rw (e, ← py, ← pf, h)
+
+  pub load-in : (w : ℕ) → found ≡ Word w → false ≡ escapes read letter st
+  unfolding escapes isOutside
+  load-in w h = rw (e, ← py, ← pf, h)
+
+  pub load : (pid value w : ℕ) (t l : List ℕ) → found ≡ Word w → t ≡ rest st → l ≡ w ∷ t → l ≡ stackAfter read pid letter value st
+  unfolding stackAfter wordOf
+  load pid value w t l h pt k = rw (e, ← py, ← pf, h, ← pt) k
+
+module _ (read : ℕ → Fetched) (pid letter value : ℕ) (st l : List ℕ) where
+  pub push-pid : (v : ℕ) → letter ≡ 107 → v ≡ flag (eqb pid value) → l ≡ v ∷ st → l ≡ stackAfter read pid letter value st
+  unfolding stackAfter
+  push-pid v e h k = rw e (k ∙ rw h)
+
+  pub push-value : letter ≡ 112 → l ≡ value ∷ st → l ≡ stackAfter read pid letter value st
+  unfolding stackAfter
+  push-value e k = rw e k
+
+  -- another letter makes one value of two
+  pub join-two : (y x v : ℕ) (t u : List ℕ) → (letter ≡ 107 → ⊥) → (letter ≡ 112 → ⊥) → (letter ≡ 42 → ⊥)
+      → y ≡ top st → t ≡ rest st → x ≡ top t → u ≡ rest t → v ≡ joinOf letter x y → l ≡ v ∷ u → l ≡ stackAfter read pid letter value st
+  unfolding stackAfter
+  join-two y x v t u a b c py pt px pu pv k =
+      rw (ne-eqb letter 107 a, ne-eqb letter 112 b, ne-eqb letter 42 c, ← pt, ← py, ← px, ← pu, ← pv) k
+
+-- ---- the elements from a place on, over a stack
+
+-- the loop's invariant: the truth is that of the elements from place i on, over the stack
+abbrev pub Remains : (ℕ → Fetched) → ℕ → List Element → ℕ → ℕ → List ℕ → Type 0
+Remains read pid l n i st = evaluateOf read pid l n ≡ evalFrom read pid (drop i (take n l)) st
+
+pub remains-all : (read : ℕ → Fetched) (pid : ℕ) (l : List Element) (n : ℕ) (st : List ℕ) → st ≡ 1 ∷ [] → Remains read pid l n 0 st
+unfolding evaluateOf
+remains-all read pid l n st e = rw e
+
+module _ (read : ℕ → Fetched) (pid : ℕ) (l : List Element) (n i : ℕ) (z : n ≤ length l) (st : List ℕ) (p : Remains read pid l n i st) where
+  module _ (out : Bool) (h : i < n) (q : out ≡ escapes read (getD l i noElement .letter) st) where
+    pub remains-more : (st' : List ℕ) → out ≡ false
+        → st' ≡ stackAfter read pid (getD l i noElement .letter) (getD l i noElement .value) st → Remains read pid l n (i + 1) st'
+    unfolding evalFrom
+    remains-more st' f s = p ∙ rw (next-element l n i z h, ← q, f, ← s)
+
+    pub remains-out : out ≡ true → true ≡ evaluateOf read pid l n
+    unfolding evalFrom
+    remains-out f = sym (p ∙ rw (next-element l n i z h, ← q, f))
+
+  pub remains-none : (v : ℕ) → n ≤ i → v ≡ top st → truth v ≡ evaluateOf read pid l n
+  unfolding evalFrom
+  remains-none v h q = sym (p ∙ rw (no-element l n i z h, ← q))
+
+-- ---- the reader
+
+module _ (sites plain mem : List ℕ) (base a : ℕ) where
+  pub fetch-below : a < base → Outside ≡ fetchOf sites plain mem base a
+  unfolding fetchOf
+  fetch-below h = rw (lt-leb base a h)
+
+  pub fetch-above : base ≤ a → length mem < a - base + 4 → Outside ≡ fetchOf sites plain mem base a
+  unfolding fetchOf
+  fetch-above h k = rw (le-leb base a h, lt-leb (a - base + 4) (length mem) k)
+
+  pub fetch-word : (b0 b1 b2 b3 w : ℕ) → base ≤ a → a - base + 4 ≤ length mem
+      → b0 ≡ plainAt 2 sites plain mem (a - base) → b1 ≡ plainAt 2 sites plain mem (a - base + 1)
+      → b2 ≡ plainAt 2 sites plain mem (a - base + 2) → b3 ≡ plainAt 2 sites plain mem (a - base + 3)
+      → w ≡ ofHighFirst (b3 ∷ b2 ∷ b1 ∷ b0 ∷ []) → Word w ≡ fetchOf sites plain mem base a
+  unfolding fetchOf ofHighFirst
+  fetch-word b0 b1 b2 b3 w h k p q r s e =
+      rw (le-leb base a h, le-leb (a - base + 4) (length mem) k, ← p, ← q, ← r, ← s) (ap Word e)

@@ -1,0 +1,5 @@
+pub mod Depth
+pub mod Add
+pub mod Evaluate
+pub mod Stack
+pub mod Worked

@@ -1,0 +1,3 @@
+pub mod Overlay
+pub mod Write
+pub mod Place

@@ -1,0 +1,160 @@
+// The window under traps: reads and writes of plain bytes, laying bytes over a site, and the stretch that an address names.
+//
+// Everything goes by offset into the window. A table of breakpoints is given by two small arrays: the slots' sites, where a free
+// slot has the odd site 1, and the slots' plain bytes, two for each slot.
+ghost use mathlib.Core.Path.{_≡_};
+ghost use mathlib.Core.List.{_∷_, []};
+ghost use Prim.Native.Nat.{_+_, _≤_};
+ghost use lib.ListN.{length};
+ghost use Rattle.memory.specs.Overlay.{slotOf, plainAt, plainOf, laidOver};
+ghost use Rattle.memory.specs.Write.{readOf, memAfter, plainAfter};
+ghost use Rattle.memory.specs.Place.{placeOf, stretchOf};
+
+// Where the bytes that a request names lie.
+pub enum Place {
+    Registers,
+    Window,
+    Nowhere,
+}
+
+// The first slot whose site covers an offset, or 8.
+pub fn slot_of(sites: &[u32; 8], at: usize) -> usize
+    ensures { λ r. ⌜ r ≡ slotOf 2 (now (sites .entry)) at ⌝ }
+{
+    let all = &sites[..];
+    let over = at - at % 2;
+    let mut k: usize = 0;
+    let slot = loop {
+        if k == 8 {
+            break k;
+        }
+        let site = all[k] as usize;
+        if site == over {
+            break k;
+        }
+        k += 1;
+    };
+    slot
+}
+
+// The plain byte at an offset.
+pub fn plain_at(mem: &[u8], sites: &[u32; 8], plain: &[u8; 16], at: usize) -> u8
+    ensures { λ r. ⌜ r ≡ plainAt 2 (now (sites .entry)) (now (plain .entry)) (now (mem .entry)) at ⌝ }
+{
+    let all = &sites[..];
+    let k = slot_of(sites, at);
+    if k < all.len() {
+        return plain[2 * k + at % 2];
+    }
+    if at < mem.len() {
+        return mem[at];
+    }
+    0
+}
+
+// The plain bytes of a stretch of the window, then zeros.
+pub fn read(mem: &[u8], sites: &[u32; 8], plain: &[u8; 16], at: usize, n: usize) -> [u8; 9]
+    requires { ⌜ at + n ≤ length (now mem) ⌝ }
+    ensures { λ r. ⌜ r ≡ readOf 2 (now (sites .entry)) (now (plain .entry)) (now (mem .entry)) at n 9 ⌝ }
+{
+    let mut out: [u8; 9] = [0; 9];
+    let mut j: usize = 0;
+    while j < 9 {
+        if j == n {
+            return out;
+        }
+        out[j] = plain_at(mem, sites, plain, at + j);
+        j += 1;
+    }
+    out
+}
+
+// Writes a stretch: each byte to memory or, under a trap, to the slot's plain bytes.
+pub fn write(mem: &mut [u8], sites: &[u32; 8], plain: &mut [u8; 16], at: usize, bytes: &[u8])
+    requires { ⌜ at + length (now bytes) ≤ length (now mem) ⌝ }
+    ensures { λ _. ⌜ now (mem .exit) ≡ memAfter 2 (now (sites .entry)) (now (mem .entry)) at (now (bytes .entry)) ⌝ }
+    ensures { λ _. ⌜ now (plain .exit) ≡ plainAfter 2 (now (sites .entry)) (now (plain .entry)) at (now (bytes .entry)) ⌝ }
+{
+    let all = &sites[..];
+    let kept = &mut plain[..];
+    let mut j: usize = 0;
+    while j < bytes.len() {
+        let i = at + j;
+        let k = slot_of(sites, i);
+        if k < all.len() {
+            kept[2 * k + i % 2] = bytes[j];
+        } else {
+            mem[i] = bytes[j];
+        }
+        j += 1;
+    }
+}
+
+// Lays two bytes over a site: the trap to plant it, its plain bytes to take it away. An odd site lies nowhere.
+pub fn lay(mem: &mut [u8], site: usize, b0: u8, b1: u8)
+    ensures { λ _. ⌜ now (mem .exit) ≡ laidOver (b0 ∷ b1 ∷ []) (site ∷ []) (now (mem .entry)) ⌝ }
+{
+    if site % 2 != 0 {
+        return;
+    }
+    if mem.len() <= site {
+        return;
+    }
+    mem[site] = b0;
+    if site + 1 < mem.len() {
+        mem[site + 1] = b1;
+    }
+}
+
+// Puts the plain bytes back at every site, the last slot first, so that the first slot of a site decides.
+pub fn restore(mem: &mut [u8], sites: &[u32; 8], plain: &[u8; 16])
+    ensures { λ _. ⌜ now (mem .exit) ≡ plainOf 2 (now (sites .entry)) (now (plain .entry)) (now (mem .entry)) ⌝ }
+{
+    let all = &sites[..];
+    let mut k: usize = 8;
+    while 0 < k {
+        k -= 1;
+        lay(mem, all[k] as usize, plain[2 * k], plain[2 * k + 1]);
+    }
+}
+
+// Where the n bytes from an address lie.
+pub fn place_of(base: u32, size: u32, address: u32, n: u8) -> Place
+    ensures { λ r. ⌜ r ≡ placeOf base size address n ⌝ }
+{
+    let end = address as u64 + n as u64;
+    if end <= 136 {
+        return Place::Registers;
+    }
+    if address < base {
+        return Place::Nowhere;
+    }
+    let last = base as u64 + size as u64;
+    if last < end {
+        return Place::Nowhere;
+    }
+    Place::Window
+}
+
+// The stretch that an address names: a part of the register block or of the window.
+pub fn stretch<'a>(block: &'a [u8], mem: &'a [u8], base: u32, address: u32, n: u8) -> &'a [u8]
+    requires { ⌜ length (now block) ≡ 136 ⌝ }
+    ensures { λ r. ⌜ now r ≡ stretchOf (placeOf base (length (now (mem .entry))) address n) (now (block .entry)) (now (mem .entry)) base address n ⌝ }
+{
+    let from = address as usize;
+    let count = n as usize;
+    if from + count <= 136 {
+        return &block[from..from + count];
+    }
+    if address < base {
+        return &mem[0..0];
+    }
+    let start = from - base as usize;
+    if mem.len() < count {
+        return &mem[0..0];
+    }
+    if mem.len() - count < start {
+        return &mem[0..0];
+    }
+    &mem[start..start + count]
+}

@@ -1,0 +1,5 @@
+pub mod Planted
+pub mod Bytes
+pub mod Laws
+pub mod Planting
+pub mod Worked

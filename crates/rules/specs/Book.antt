@@ -1,0 +1,275 @@
+-- 01, "The book of demand 3": the book, what feeds it, and the claim about every list of steps. This file says what is promised; it
+-- cites the rules (what the steps answer) and nothing of the proof. The theorem is `demand3` in Theorem.antt.
+use mathlib.Core.Path.{_≡_}
+use Prim.Native.Nat.{ℕ, _+_, _-_}
+use Prim.Native.Char.{code}
+use mathlib.Core.Bool.{Bool, true, false, cond, not, _&&_}
+use mathlib.Core.List.{List, [], _∷_, _++_, map}
+use mathlib.Core.Option.{Option, none, some}
+use lib.Dec.{leb, ltb, eqb}
+use lib.ListN.{getD, take, set}
+use Rattle.common.specs.Bytes.{ofLowFirst}
+use Rattle.common.specs.First.{firstOf}
+use Rattle.common.specs.Keys.{among}
+use Rattle.condition.specs.Evaluate.{evalFrom}
+use Rattle.condition.specs.declared.Fetched.{Fetched}
+use Rattle.condition.specs.declared.Fetched.the-variants.{Word, Outside}
+use Rattle.memory.specs.Overlay.{trap, covered, laidOver}
+use Rattle.memory.specs.Place.{placeOf}
+use Rattle.memory.specs.Write.{bytesAt, overwritten}
+use Rattle.memory.specs.declared.Place.{Place}
+use Rattle.memory.specs.declared.Place.the-variants.{Registers, Window, Nowhere}
+use Rattle.request.specs.Request.{parseOf}
+use Rattle.request.specs.declared.Parsed.{Parsed}
+use Rattle.request.specs.declared.Parsed.the-variants.{Request, Refused, NotTen}
+use Rattle.target.specs.declared.Element.{Element}
+use Rattle.target.specs.declared.Target.{Target}
+use Rattle.wire.specs.Message.{bytes4, bytesOf}
+use Rattle.wire.specs.declared.Data4.{Data4}
+use Rattle.wire.specs.declared.Message.{Message}
+use Rattle.wire.specs.declared.Message.the-variants.{Tmget, Tmput, Tproc, Tstatus, Trnote, Tstop, Tstart, Tcondbreak, Rerr, Rmget, Rmput, Rproc, Rstatus, Rrnote, Rstop, Rstart, Rcondbreak}
+use Rattle.rules.specs.declared.Answer.{Answer}
+use Rattle.rules.specs.declared.Answer.the-variants.{Nothing, Stop, Pass, Yes, No}
+use Rattle.rules.specs.Outcome.{Outcome}
+use Rattle.rules.specs.Record.{pcOf, blockAt}
+use Rattle.rules.specs.Request.{data9Of}
+use Rattle.rules.specs.Step.{setupOf, Step, request, trapEvent, scheduleEvent, stateEvent, restartStep, stepOf}
+
+-- ---- the book: "plain memory .., a draft (id, elements), breakpoints (id, site, elements) and Stopped processes"
+
+pub record Breakpoint : Type 0 where
+  pub id : ℕ
+  pub site : ℕ
+  pub elements : List Element
+
+pub record Pending : Type 0 where
+  pub id : ℕ
+  pub elements : List Element
+
+pub record Book : Type 0 where
+  pub plain : List ℕ
+  pub draft : Option Pending
+  pub breakpoints : List Breakpoint
+  pub stopped : List ℕ
+
+-- what setup was given
+pub record Setup : Type 0 where
+  pub base : ℕ
+  pub size : ℕ
+  pub pids : List ℕ
+  pub addresses : List ℕ
+  pub count : ℕ
+  pub mem : List ℕ
+  pub regs : List ℕ
+
+unfoldable pub setupBy : Setup → Outcome
+setupBy s = setupOf (s .base) (s .size) (s .pids) (s .addresses) (s .count) (s .mem) (s .regs)
+
+-- "plain memory, at setup the memory lent; and, at first none, a draft .., breakpoints .. and Stopped processes"
+unfoldable pub opened : Setup → Book
+opened s = record { plain = s .mem; draft = none; breakpoints = []; stopped = [] }
+
+-- ---- the book with one thing changed
+
+unfoldable pub withPlain : Book → List ℕ → Book
+withPlain b m = record { plain = m; draft = b .draft; breakpoints = b .breakpoints; stopped = b .stopped }
+
+unfoldable pub withDraft : Book → Option Pending → Book
+withDraft b d = record { plain = b .plain; draft = d; breakpoints = b .breakpoints; stopped = b .stopped }
+
+unfoldable pub withBreakpoints : Book → List Breakpoint → Book
+withBreakpoints b l = record { plain = b .plain; draft = b .draft; breakpoints = l; stopped = b .stopped }
+
+unfoldable pub withStopped : Book → List ℕ → Book
+withStopped b l = record { plain = b .plain; draft = b .draft; breakpoints = b .breakpoints; stopped = l }
+
+-- the breakpoints for which the test fails
+unfoldable pub without : (Breakpoint → Bool) → List Breakpoint → List Breakpoint
+without f [] = []
+without f (x ∷ xs) = cond (f x) (without f xs) (x ∷ without f xs)
+
+-- the numbers other than x
+unfoldable pub others : ℕ → List ℕ → List ℕ
+others x [] = []
+others x (y ∷ ys) = cond (eqb y x) (others x ys) (y ∷ others x ys)
+
+-- ---- "An accepted write into the window puts its bytes in plain memory"
+
+unfoldable pub intoWindow : Place → Bool
+intoWindow Registers = false
+intoWindow Window = true
+intoWindow Nowhere = false
+
+-- n bytes at an address lie in the window; of no bytes none do
+unfoldable pub inWindow : Setup → ℕ → ℕ → Bool
+inWindow s addr n = ltb 0 n && intoWindow (placeOf (s .base) (s .size) addr n)
+
+unfoldable pub bookWrite : Setup → Book → ℕ → ℕ → Data4 → Book
+bookWrite s b addr n d =
+    cond (inWindow s addr n) (withPlain b (overwritten (b .plain) (addr - s .base) (take n (bytes4 d)))) b
+
+-- ---- "An accepted n makes a new draft with its id, an accepted element joins it, an accepted b sets it as a breakpoint at val.
+-- An accepted d removes the one of its id"
+
+unfoldable pub joins : Option Pending → Element → Option Pending
+joins none e = none
+joins (some p) e = some (record { id = p .id; elements = p .elements ++ (e ∷ []) })
+
+unfoldable pub sets : Option Pending → ℕ → List Breakpoint → List Breakpoint
+sets none val l = l
+sets (some p) val l = record { id = p .id; site = val; elements = p .elements } ∷ l
+
+unfoldable pub bookCondbreak : Book → ℕ → ℕ → Book
+bookCondbreak b val op =
+    cond (eqb op (code "n")) (withDraft b (some (record { id = val; elements = [] })))
+    (cond (eqb op (code "b")) (withBreakpoints (withDraft b none) (sets (b .draft) val (b .breakpoints)))
+    (cond (eqb op (code "d")) (withBreakpoints b (without (λ x. eqb (x .id) val) (b .breakpoints)))
+    (withDraft b (joins (b .draft) (record { letter = op; value = val })))))
+
+-- ---- "An accepted Tstart ends that and, where it was so, removes a breakpoint at the pc in its register block"
+
+unfoldable pub bookStart : Setup → Book → List ℕ → ℕ → Book
+bookStart s b regs pid =
+    let pc = pcOf (blockAt regs (firstOf (eqb pid) (take (s .count) (s .pids)))) in
+    cond (among (b .stopped) pid)
+    (withBreakpoints (withStopped b (others pid (b .stopped))) (without (λ x. eqb (x .site) pc) (b .breakpoints)))
+    b
+
+-- ---- what feeds the book: a step's arguments, its number and its answer. "All else, and every refused step, changes nothing"
+
+unfoldable pub bookServed : Setup → Book → List ℕ → Message → Book
+bookServed s b regs (Tmget addr n) = b
+bookServed s b regs (Tmput addr n d) = bookWrite s b addr n d
+bookServed s b regs (Tproc pid) = b
+bookServed s b regs (Tstatus pid) = b
+bookServed s b regs (Trnote pid) = b
+bookServed s b regs (Tstop pid) = b
+bookServed s b regs (Tstart pid) = bookStart s b regs pid
+bookServed s b regs (Tcondbreak val op) = bookCondbreak b val op
+bookServed s b regs (Rerr r) = b
+bookServed s b regs (Rmget d) = b
+bookServed s b regs Rmput = b
+bookServed s b regs (Rproc addr) = b
+bookServed s b regs (Rstatus x) = b
+bookServed s b regs Rrnote = b
+bookServed s b regs Rstop = b
+bookServed s b regs Rstart = b
+bookServed s b regs Rcondbreak = b
+
+unfoldable pub bookRequest : Setup → Book → List ℕ → Parsed → Book
+bookRequest s b regs (Request m) = bookServed s b regs m
+bookRequest s b regs (Refused r) = b
+bookRequest s b regs NotTen = b
+
+-- "Stop and yes make the process Stopped"
+unfoldable pub bookAnswer : Book → ℕ → Answer → Book
+bookAnswer b pid Nothing = b
+bookAnswer b pid (Stop id) = withStopped b (pid ∷ b .stopped)
+bookAnswer b pid (Pass x y) = b
+bookAnswer b pid Yes = withStopped b (pid ∷ b .stopped)
+bookAnswer b pid No = b
+
+-- "A step is refused if its number is not 0 or a request got Rerr"
+unfoldable pub isAccepted : ℕ → List ℕ → Bool
+isAccepted number reply = eqb number 0 && not (eqb (getD reply 0 0) 1)
+
+unfoldable pub fed : Setup → Book → Step → ℕ → Answer → List ℕ → Book
+fed s b (request regs bytes buffer) number answer reply = cond (isAccepted number reply) (bookRequest s b regs (parseOf bytes)) b
+fed s b (trapEvent regs pid block) number answer reply = cond (eqb number 0) (bookAnswer b pid answer) b
+fed s b (scheduleEvent regs pid block) number answer reply = cond (eqb number 0) (bookAnswer b pid answer) b
+fed s b (stateEvent regs pid value) number answer reply = b
+fed s b (restartStep regs buffer) number answer reply = cond (eqb number 0) (withStopped (withBreakpoints b []) []) b
+
+-- ---- traps by the book
+
+-- the sites of the breakpoints, as offsets into the window
+unfoldable pub sitesBy : Setup → Book → List ℕ
+sitesBy s b = map (λ x. x .site - s .base) (b .breakpoints)
+
+-- "plain memory with the traps of the breakpoints in force laid over it, nothing else"
+unfoldable pub realBy : Setup → Book → List ℕ
+realBy s b = laidOver trap (sitesBy s b) (b .plain)
+
+-- "A byte is under a trap when a breakpoint in the book has its trap there"
+unfoldable pub underTrap : Setup → Book → ℕ → Bool
+underTrap s b i = covered 2 (sitesBy s b) i
+
+-- ---- reads by the book: "a Tmget served from the window, the bytes of Pass, what * reads"
+
+-- a Tmget of the window answers plain memory's bytes
+unfoldable pub ReadsMessage : Setup → Book → Message → List ℕ → Type 0
+ReadsMessage s b (Tmget addr n) reply = inWindow s addr n ≡ true → reply ≡ bytesOf (Rmget (data9Of (bytesAt (b .plain) (addr - s .base) n 9)))
+ReadsMessage s b (Tmput addr n d) reply = Unit
+ReadsMessage s b (Tproc pid) reply = Unit
+ReadsMessage s b (Tstatus pid) reply = Unit
+ReadsMessage s b (Trnote pid) reply = Unit
+ReadsMessage s b (Tstop pid) reply = Unit
+ReadsMessage s b (Tstart pid) reply = Unit
+ReadsMessage s b (Tcondbreak val op) reply = Unit
+ReadsMessage s b (Rerr r) reply = Unit
+ReadsMessage s b (Rmget d) reply = Unit
+ReadsMessage s b Rmput reply = Unit
+ReadsMessage s b (Rproc addr) reply = Unit
+ReadsMessage s b (Rstatus x) reply = Unit
+ReadsMessage s b Rrnote reply = Unit
+ReadsMessage s b Rstop reply = Unit
+ReadsMessage s b Rstart reply = Unit
+ReadsMessage s b Rcondbreak reply = Unit
+
+unfoldable pub ReadsRequest : Setup → Book → Parsed → List ℕ → Type 0
+ReadsRequest s b (Request m) reply = ReadsMessage s b m reply
+ReadsRequest s b (Refused r) reply = Unit
+ReadsRequest s b NotTen reply = Unit
+
+-- what * reads: plain memory's bytes, low-order first
+unfoldable pub fetchBy : Setup → Book → ℕ → Fetched
+fetchBy s b a =
+    cond (leb (s .base) a && leb (a + 4) (s .base + s .size)) (Word (ofLowFirst (bytesAt (b .plain) (a - s .base) 4 4))) Outside
+
+-- "An accepted trap event answers by its rule over the book's breakpoints and plain memory"
+unfoldable pub answerOf : Setup → Book → ℕ → Breakpoint → Answer
+answerOf s b pid x =
+    cond (evalFrom (fetchBy s b) pid (x .elements) (1 ∷ [])) (Stop (x .id))
+    (Pass (getD (b .plain) (x .site - s .base) 0) (getD (b .plain) (x .site - s .base + 1) 0))
+
+unfoldable pub answerAmong : Setup → Book → ℕ → ℕ → List Breakpoint → Answer
+answerAmong s b pid pc [] = Nothing
+answerAmong s b pid pc (x ∷ xs) = cond (eqb (x .site) pc) (answerOf s b pid x) (answerAmong s b pid pc xs)
+
+unfoldable pub trapBy : Setup → Book → ℕ → List ℕ → Answer
+trapBy s b pid block = answerAmong s b pid (pcOf block) (b .breakpoints)
+
+-- ---- what is claimed of one step, over the book as it stood before it
+
+unfoldable pub RightStep : Setup → Book → Step → Outcome → Type 0
+RightStep s b (request regs bytes buffer) o = isAccepted (o .number) (o .reply) ≡ true → ReadsRequest s b (parseOf bytes) (o .reply)
+RightStep s b (trapEvent regs pid block) o = o .number ≡ 0 → o .answer ≡ trapBy s b pid block
+RightStep s b (scheduleEvent regs pid block) o = Unit
+RightStep s b (stateEvent regs pid value) o = Unit
+-- "an accepted restart leaves exactly plain memory"
+RightStep s b (restartStep regs buffer) o = o .number ≡ 0 → o .after .mem ≡ b .plain
+
+-- ---- lists: a step with everything lent to it, or an outside change of one byte of memory, by its offset
+
+pub data Event : Type 0 where
+  step : Step → Event
+  change : (offset byte : ℕ) → Event
+
+-- The claim about a list, from a record, its memory and the book:
+-- real memory is the book's; no step answers number 3 and each is right by the book; and so on over what the step leaves.
+-- An outside change is taken where no trap lies.
+unfoldable pub Claim : Setup → Book → Target → List ℕ → List Event → Type 0
+Claim s b t mem [] = mem ≡ realBy s b
+Claim s b t mem (step e ∷ es) =
+    let o = stepOf t mem e in
+    (mem ≡ realBy s b)
+    × (o .number ≡ 3 → ⊥)
+    × RightStep s b e o
+    × Claim s (fed s b e (o .number) (o .answer) (o .reply)) (o .after .target) (o .after .mem) es
+Claim s b t mem (change i byte ∷ es) =
+    (mem ≡ realBy s b) × (underTrap s b i ≡ false → Claim s (withPlain b (set (b .plain) i byte)) t (set mem i byte) es)
+
+-- "Over every list of steps after an accepted setup"
+abbrev pub Demand3 : Type 0
+Demand3 =
+    (s : Setup) → setupBy s .number ≡ 0 → (es : List Event) → Claim s (opened s) (setupBy s .after .target) (s .mem) es

@@ -1,0 +1,79 @@
+-- 01, "Breakpoints" and "Trap": finding, making and removing one.
+use Prim.Native.Nat.{ℕ, _+_, _-_}
+use mathlib.Core.Bool.{Bool, cond, not, _&&_}
+use mathlib.Core.List.{List, [], _∷_}
+use lib.Dec.{ltb, eqb}
+use lib.ListN.{length, set}
+use Rattle.common.specs.First.{firstOf}
+use Rattle.memory.specs.Overlay.{trap, plainAt, plainOf, laidOver}
+use Rattle.fit.specs.Arrays.{sitesOf, plainsOf}
+use Rattle.fit.specs.Fit.{entryAt}
+use Rattle.target.specs.Free.{isFree, firstFree}
+use Rattle.target.specs.Fresh.{freshEntry, closedDraft}
+use Rattle.target.specs.declared.Entry.{Entry}
+use Rattle.target.specs.declared.Target.{Target}
+use Rattle.rules.specs.Outcome.{World, world}
+use Rattle.rules.specs.Record.{withTable, withEntries}
+
+-- the table as the overlay of the window sees it
+abbrev pub sites : Target → List ℕ
+sites t = sitesOf (t .base) (t .table .entries)
+
+abbrev pub plains : Target → List ℕ
+plains t = plainsOf (t .table .entries)
+
+-- the plain byte at an offset of the window
+abbrev pub plainByte : World → ℕ → ℕ
+plainByte w i = plainAt 2 (sites (w .target)) (plains (w .target)) (w .mem) i
+
+-- plain memory
+abbrev pub plainMemory : World → List ℕ
+plainMemory w = plainOf 2 (sites (w .target)) (plains (w .target)) (w .mem)
+
+-- ---- which breakpoint a trap event finds: the one at the site
+
+unfoldable pub isAt : ℕ → Entry → Bool
+isAt address e = not (isFree e) && eqb (e .site) address
+
+-- the index of the breakpoint at an address, or the number of entries
+unfoldable pub breakpointAt : List Entry → ℕ → ℕ
+breakpointAt es address = firstOf (isAt address) es
+
+-- ---- making one
+
+-- "An entry holds an id, a site, the two plain bytes of the site, and 0 to 16 condition elements"
+unfoldable pub madeEntry : World → ℕ → Entry
+madeEntry w site =
+    let d = w .target .table .draft in
+    record {
+      used = 1;
+      id = d .id;
+      site = site;
+      count = d .count;
+      elements = d .elements;
+      plain = plainByte w (site - w .target .base) ∷ plainByte w (site - w .target .base + 1) ∷ [];
+    }
+
+-- "the trap is planted and nothing is in hand": "A new one takes the free entry of the lowest index"
+unfoldable pub planted : World → ℕ → World
+planted w site =
+    let t = w .target in
+    let es = t .table .entries in
+    world (withTable t (record { entries = set es (firstFree es) (madeEntry w site); draft = closedDraft }))
+    (laidOver trap ((site - t .base) ∷ []) (w .mem)) (w .regs)
+
+-- ---- removing one
+
+-- "the breakpoint is removed, its plain bytes put back"; the condition in hand stays
+unfoldable pub removed : World → ℕ → World
+removed w k =
+    let t = w .target in
+    let e = entryAt (t .table .entries) k in
+    world (withEntries t (set (t .table .entries) k freshEntry)) (laidOver (e .plain) ((e .site - t .base) ∷ []) (w .mem)) (w .regs)
+
+-- the breakpoint at an address removed, where there is one
+unfoldable pub removedAt : World → ℕ → World
+removedAt w address =
+    let es = w .target .table .entries in
+    let k = breakpointAt es address in
+    cond (ltb k (length es)) (removed w k) w

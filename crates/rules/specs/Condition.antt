@@ -1,0 +1,85 @@
+-- 01, "Conditions in Reverse Polish (Tcondbreak)": the requests n, b, d and the elements.
+use Prim.Native.Nat.{ℕ, _+_, _%_}
+use Prim.Native.Char.{code}
+use mathlib.Core.Bool.{Bool, cond, not, _&&_, _||_}
+use lib.Dec.{leb, ltb, eqb}
+use lib.ListN.{length, replicate}
+use Rattle.condition.specs.Depth.{wellFormed}
+use Rattle.condition.specs.Add.{addOf}
+use Rattle.condition.specs.declared.Room.{Room}
+use Rattle.condition.specs.declared.Room.the-variants.{Fits, Full, Short}
+use Rattle.condition.specs.declared.Added.{Added}
+use Rattle.fit.specs.Fit.{entryOf}
+use Rattle.target.specs.Free.{firstFree}
+use Rattle.target.specs.Fresh.{closedDraft, noElement}
+use Rattle.target.specs.declared.Draft.{Draft}
+use Rattle.target.specs.declared.Element.{Element}
+use Rattle.wire.specs.declared.Message.the-variants.{Rcondbreak}
+use Rattle.wire.specs.declared.Reason.{Reason}
+use Rattle.wire.specs.declared.Reason.the-variants.{Count, Inval}
+use Rattle.rules.specs.Outcome.{World, world, Outcome, replied, error}
+use Rattle.rules.specs.Record.{withDraft}
+use Rattle.rules.specs.Breakpoint.{breakpointAt, planted, removed}
+
+-- the condition in hand is dropped
+unfoldable pub dropped : World → World
+dropped w = world (withDraft (w .target) closedDraft) (w .mem) (w .regs)
+
+-- "Every Tcondbreak that gets Rerr and whose op is not d and three zeros drops the condition in hand"
+unfoldable pub failed : Reason → World → Outcome
+failed r w = error r (dropped w)
+
+-- something is in hand
+unfoldable pub inHand : World → Bool
+inHand w = not (eqb (w .target .table .draft .active) 0)
+
+-- a condition with an id and no element
+unfoldable pub begun : ℕ → Draft
+begun id = record { active = 1; id = id; count = 0; elements = replicate 16 noElement }
+
+-- "n val: begins a condition, replacing one in hand. Id over 255 or in use: inval; then, table full: count"
+unfoldable pub beginCondition : World → ℕ → Outcome
+beginCondition w val =
+    let es = w .target .table .entries in
+    cond (ltb 255 val || ltb (entryOf es val) (length es)) (failed Inval w)
+    (cond (leb (length es) (firstFree es)) (failed Count w)
+    (replied Rcondbreak (world (withDraft (w .target) (begun val)) (w .mem) (w .regs))))
+
+unfoldable pub joined : World → Added → Room → Outcome
+joined w a Fits = replied Rcondbreak (world (withDraft (w .target) (a .draft)) (w .mem) (w .regs))
+joined w a Full = failed Count w
+joined w a Short = failed Inval w
+
+-- an element: "In order: nothing in hand, inval; a 17th element, count; too few values, inval"
+unfoldable pub addElement : World → Element → Outcome
+addElement w e =
+    let a = addOf (w .target .table .draft) e in
+    cond (inHand w) (joined w a (a .room)) (failed Inval w)
+
+-- an even address with both bytes in the window, where no breakpoint is
+unfoldable pub siteFree : World → ℕ → Bool
+siteFree w val =
+    let t = w .target in
+    let es = t .table .entries in
+    eqb (val % 2) 0 && leb (t .base) val && leb (val + 2) (t .base + t .size) && leb (length es) (breakpointAt es val)
+
+-- "b val: nothing in hand, odd or outside site, site taken, or depth not 1: inval"
+unfoldable pub setBreakpoint : World → ℕ → Outcome
+setBreakpoint w val =
+    let d = w .target .table .draft in
+    cond (inHand w && siteFree w val && wellFormed (d .elements) (d .count)) (replied Rcondbreak (planted w val)) (failed Inval w)
+
+-- "d val: the breakpoint is removed .. Unknown id: inval. The condition in hand stays in either case"
+unfoldable pub deleteBreakpoint : World → ℕ → Outcome
+deleteBreakpoint w val =
+    let es = w .target .table .entries in
+    let k = entryOf es val in
+    cond (leb val 255 && ltb k (length es)) (replied Rcondbreak (removed w k)) (error Inval w)
+
+-- a Tcondbreak that is a message, by its letter
+unfoldable pub condbreak : World → ℕ → ℕ → Outcome
+condbreak w val op =
+    cond (eqb op (code "n")) (beginCondition w val)
+    (cond (eqb op (code "b")) (setBreakpoint w val)
+    (cond (eqb op (code "d")) (deleteBreakpoint w val)
+    (addElement w (record { letter = op; value = val }))))

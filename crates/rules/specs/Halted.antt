@@ -1,0 +1,167 @@
+-- The processes and the book: which are Stopped, and where a pid is found.
+use mathlib.Core.Path.{_≡_, refl, sym, ap, _∙_}
+use mathlib.Core.Bool.{Bool, true, false, cond}
+use mathlib.Core.List.{List, [], _∷_, _++_, map}
+use Prim.Native.Nat.{ℕ, zero, suc, _<_, _≤_}
+use native.Mathlib.Nat.{not-suc-le-zero, le-of-suc-le-suc}
+use native.Mathlib.Omega.{arith}
+use borrow.Author.Tests.{leb-true, leb-false, eqb-true, eqb-false, lt-ltb, eq-eqb, ne-eqb}
+use lib.Dec.{leb, eqb}
+use lib.ListN.{length, getD, set, take, drop, length-map, List·getD-eq-default, List·getD-map}
+use lib.Seq.{length-take-le, getD-take, getD-set-same, getD-set-other, map-set-same, ext-getD}
+use Rattle.common.specs.First.{firstOf}
+use Rattle.common.specs.Keys.{among}
+use Rattle.common.specs.Tab.{tab}
+use Rattle.common.proofs.First.{first-holds}
+use Rattle.common.proofs.Tab.{length-tab, tab-at}
+use Rattle.fit.specs.Fit.{processAt, processOf}
+use Rattle.common.proofs.Cases.{on-test, on-same}
+use Rattle.target.specs.Fresh.{noProcess}
+use Rattle.target.specs.declared.Process.{Process}
+use Rattle.target.specs.declared.Target.{Target}
+use Rattle.rules.specs.Record.{indexOf, withState, isStopped}
+use Rattle.rules.specs.Event.{restarted}
+use Rattle.rules.specs.Step.{beginning}
+use Rattle.rules.specs.Book.{others}
+use Rattle.rules.specs.Facts.{Good}
+use Rattle.rules.specs.FitFacts.{facts-of}
+use Rattle.rules.specs.Agree.{pidsOf, Halted}
+
+-- ---- where a pid is found
+
+-- two numbers are the same either way round
+eqb-sym : (a b : ℕ) → eqb a b ≡ eqb b a
+eqb-sym a b = on-same a b (λ q. eq-eqb a b q ∙ sym (eq-eqb b a (sym q))) (λ n. ne-eqb a b n ∙ sym (ne-eqb b a (λ q. n (sym q))))
+
+-- the process that is found has the pid
+found-pid : (ps : List Process) (n pid : ℕ) → n ≤ length ps → processOf ps n pid < n
+    → processAt ps (processOf ps n pid) .pid ≡ pid
+unfolding processOf
+found-pid ps n pid fits below =
+    let i : ℕ = firstOf (λ p. eqb (p .pid) pid) (take n ps) in
+    let q : processAt (take n ps) i ≡ processAt ps i = getD-take n ps i noProcess below in
+    sym (ap (λ (p : Process). p .pid) q)
+    ∙ eqb-true _ _ (first-holds (λ p. eqb (p .pid) pid) (take n ps) noProcess (omega (arith, length-take-le n ps fits)))
+
+module _ (t : Target) (mem : List ℕ) (good : Good t mem) where
+  -- the listed ones are among the four
+  fits : t .count ≤ length (t .processes)
+  fits = omega (arith, facts-of t mem good .few, good .shaped .processes)
+
+  pub listed : (i : ℕ) → i < t .count → i < length (t .processes)
+  listed i h = omega (arith, fits)
+
+  -- a pid that is listed is that of the process found
+  pub listed-pid : (pid : ℕ) → indexOf t pid < t .count → processAt (t .processes) (indexOf t pid) .pid ≡ pid
+  listed-pid pid h = found-pid (t .processes) (t .count) pid fits h
+
+-- it stands where its pid stands among the pids
+pub pid-place : (ps : List Process) (n pid : ℕ) → firstOf (eqb pid) (take n (pidsOf ps)) ≡ processOf ps n pid
+unfolding processOf firstOf
+pid-place ps zero pid = refl
+pid-place [] (suc n) pid = refl
+pid-place (p ∷ ps) (suc n) pid = rw (eqb-sym pid (p .pid), pid-place ps n pid)
+
+-- ---- the book's list
+
+-- another one Stopped
+pub among-more : (x y : ℕ) (l : List ℕ) → (y ≡ x → ⊥) → among (x ∷ l) y ≡ among l y
+unfolding among
+among-more x y l n = rw (ne-eqb y x n)
+
+pub among-here : (x : ℕ) (l : List ℕ) → among (x ∷ l) x ≡ true
+unfolding among
+among-here x l = rw (eq-eqb x x refl)
+
+-- one no longer Stopped
+pub among-others : (x y : ℕ) (l : List ℕ) → (y ≡ x → ⊥) → among (others x l) y ≡ among l y
+unfolding among others
+among-others x y [] n = refl
+among-others x y (z ∷ l) n = on-test (eqb z x)
+    (λ e. rw (e, ne-eqb y z (λ q. n (q ∙ eqb-true z x e))) (among-others x y l n))
+    (λ e. rw (e, among-others x y l n))
+
+pub among-gone : (x : ℕ) (l : List ℕ) → among (others x l) x ≡ false
+unfolding among others
+among-gone x [] = refl
+among-gone x (z ∷ l) = on-test (eqb z x)
+    (λ e. rw e (among-gone x l))
+    (λ e. rw (e, ne-eqb x z (λ q. eqb-false z x e (sym q))) (among-gone x l))
+
+-- ---- one process stored
+
+-- it keeps the pids
+pub pids-stored : (ps : List Process) (i state wanted : ℕ) → pidsOf (set ps i (withState (processAt ps i) state wanted)) ≡ pidsOf ps
+unfolding withState
+pids-stored ps i state wanted = map-set-same (λ p. p .pid) ps i _ noProcess refl
+
+-- it is Stopped as the book has it now, and of no other process the book says anything new
+pub halted-stored : (n : ℕ) (ps : List Process) (l l′ : List ℕ) (i state wanted : ℕ) → i < length ps
+    → eqb state 8 ≡ among l′ (processAt ps i .pid)
+    → ((j : ℕ) → j < n → (j ≡ i → ⊥) → among l′ (processAt ps j .pid) ≡ among l (processAt ps j .pid))
+    → Halted n ps l → Halted n (set ps i (withState (processAt ps i) state wanted)) l′
+unfolding withState isStopped
+halted-stored n ps l l′ i state wanted below now rest v j h = on-same j i
+    (λ q. rw (q, getD-set-same ps i _ noProcess below) now)
+    (λ q. rw (getD-set-other ps i j _ noProcess q) (v j h ∙ sym (rest j h q)))
+
+-- ---- a restart
+
+-- what it makes of the processes
+pub restarted-at : (n : ℕ) (ps : List Process) (i : ℕ) → i < n
+    → processAt (map restarted (take n ps) ++ drop n ps) i ≡ restarted (processAt ps i)
+unfolding restarted withState isStopped
+restarted-at zero ps i h = absurd (not-suc-le-zero h)
+restarted-at (suc n) [] i h = refl
+restarted-at (suc n) (p ∷ ps) zero h = refl
+restarted-at (suc n) (p ∷ ps) (suc i) h = restarted-at n ps i (le-of-suc-le-suc h)
+
+-- it keeps the pids
+pub pids-restarted : (n : ℕ) (ps : List Process) → pidsOf (map restarted (take n ps) ++ drop n ps) ≡ pidsOf ps
+unfolding restarted withState
+pids-restarted zero ps = refl
+pids-restarted (suc n) [] = refl
+pids-restarted (suc n) (p ∷ ps) = rw (pids-restarted n ps)
+
+-- and leaves none Stopped
+pub halted-restarted : (n : ℕ) (ps : List Process) → Halted n (map restarted (take n ps) ++ drop n ps) []
+unfolding restarted withState isStopped among
+halted-restarted n ps i h = rw (restarted-at n ps i h) (by (eqb (processAt ps i .state) 8) refl)
+  where
+    by : (c : Bool) → eqb (processAt ps i .state) 8 ≡ c → eqb (cond c 2 (processAt ps i .state)) 8 ≡ false
+    by true e = refl
+    by false e = e
+
+-- ---- setup
+
+module _ (pids addresses : List ℕ) (n : ℕ) (few : n ≤ 4) where
+  abbrev begun : List Process
+  begun = tab 4 (beginning pids addresses n)
+
+  -- each listed process begins with its pid, Ready
+  begun-at : (i : ℕ) → i < n
+      → processAt begun i ≡ record { pid = getD pids i 0; address = getD addresses i 0; state = 2; wanted = 0 }
+  unfolding beginning
+  begun-at i h = tab-at 4 (beginning pids addresses n) noProcess i (omega arith) ∙ rw (lt-ltb i n h)
+
+  -- none is Stopped
+  pub halted-begun : Halted n begun []
+  unfolding isStopped among
+  halted-begun i h = rw (begun-at i h)
+
+  -- the pids are those that were given, where each is at least 1
+  pub pids-begun : ((i : ℕ) → i < n → 0 < processAt begun i .pid) → take n (pidsOf begun) ≡ take n pids
+  pids-begun some =
+      ext-getD 0 (take n (pidsOf begun)) (take n pids) (all ∙ sym (length-take-le n pids given))
+      (λ i h. let g : i < n = omega (arith, all) in
+      getD-take n (pidsOf begun) i 0 g ∙ List·getD-map (λ p. p .pid) begun i noProcess
+      ∙ ap (λ (p : Process). p .pid) (begun-at i g) ∙ sym (getD-take n pids i 0 g))
+    where
+      all : length (take n (pidsOf begun)) ≡ n
+      all = length-take-le n (pidsOf begun) (omega (arith, length-map begun (λ p. p .pid), length-tab 4 (beginning pids addresses n)))
+
+      given : n ≤ length pids
+      given = on-test (leb n (length pids)) (λ e. leb-true _ _ e)
+          (λ e. let h : length pids < n = leb-false n (length pids) e in
+          let z : getD pids (length pids) 0 ≡ 0 = List·getD-eq-default pids 0 (omega arith) in
+          absurd (omega (arith, some (length pids) h, ap (λ (p : Process). p .pid) (begun-at (length pids) h))))

@@ -1,0 +1,123 @@
+-- A good world stays good: each kind of change that a step makes to the record and to memory. Assumes nothing.
+use mathlib.Core.Path.{_≡_, refl, sym}
+use mathlib.Core.Bool.{Bool, true, false, cond, _||_}
+use mathlib.Core.List.{List}
+use Prim.Native.Nat.{ℕ, _+_, _-_, _≤_, _<_}
+use native.Mathlib.Omega.{arith}
+use borrow.Author.Tests.{ltb-true, ltb-false, not-true}
+use lib.Dec.{leb, ltb, eqb}
+use lib.ListN.{length, length-set}
+use Rattle.common.proofs.Same.{true-or-false}
+use Rattle.condition.specs.Depth.{wellFormed}
+use Rattle.condition.specs.Add.{roomFor, withElement}
+use Rattle.condition.specs.declared.Room.the-variants.{Fits}
+use Rattle.fit.specs.Fit.{stopped, entryAt, entryOf, markFit}
+use Rattle.target.specs.Free.{isFree, firstFree}
+use Rattle.target.specs.declared.Element.{Element}
+use Rattle.rules.specs.Outcome.{World}
+use Rattle.rules.specs.Record.{withDraft, setState, stopWith}
+use Rattle.rules.specs.Breakpoint.{breakpointAt, madeEntry, planted, removed, removedAt}
+use Rattle.rules.specs.Condition.{dropped, inHand, begun, siteFree}
+use Rattle.rules.specs.Request.{windowWritten}
+use Rattle.rules.specs.Facts.{Good}
+use Rattle.rules.specs.Found.{free-found, at-used, at-first, id-first}
+use Rattle.rules.specs.FitFacts.{parts}
+use Rattle.rules.specs.Parts.{parts-of, good-processes}
+use Rattle.rules.specs.KeptProcesses.{mark-none, state-parts}
+use Rattle.rules.specs.KeptDraft.{closed-fit, hand-of, begun-fit, joined-fit}
+use Rattle.rules.specs.KeptTable.{good-draft, good-made, good-freed, good-written}
+
+-- the record is good with its memory
+abbrev pub GoodWorld : World → Type 0
+GoodWorld w = Good (w .target) (w .mem)
+
+-- what holds of both branches of a test holds of the one that is taken
+pub choose : {A : Type 0} (P : A → Type 0) (c : Bool) {a b : A} → (c ≡ true → P a) → (c ≡ false → P b) → P (cond c a b)
+choose P true h k = h refl
+choose P false h k = k refl
+
+-- both parts of a disjunction that fails fail
+pub neither : (a b : Bool) → (a || b) ≡ false → (a ≡ false) × (b ≡ false)
+neither true b e = true-or-false (sym e)
+neither false b e = (refl, e)
+
+module _ (w : World) (g : GoodWorld w) where
+  -- ---- the condition in hand
+
+  -- it is dropped
+  pub good-dropped : GoodWorld (dropped w)
+  unfolding dropped
+  good-dropped = good-draft (w .target) (w .mem) g _ refl (omega arith) (closed-fit _)
+
+  -- one is begun, with an id that is free, where an entry is
+  pub good-begun : (val : ℕ) → ltb 255 val ≡ false
+      → ltb (entryOf (w .target .table .entries) val) (length (w .target .table .entries)) ≡ false
+      → leb (length (w .target .table .entries)) (firstFree (w .target .table .entries)) ≡ false
+      → Good (withDraft (w .target) (begun val)) (w .mem)
+  unfolding begun
+  good-begun val small new room =
+      good-draft (w .target) (w .mem) g (begun val) refl (omega (arith, ltb-false 255 val small))
+      (begun-fit (w .target .table .entries) (g .shaped .entries) val new room)
+
+  -- an element that fits joins it
+  pub good-joined : (e : Element) → inHand w ≡ true → roomFor (w .target .table .draft) e ≡ Fits
+      → Good (withDraft (w .target) (withElement (w .target .table .draft) e)) (w .mem)
+  unfolding inHand withElement
+  good-joined e hand room =
+      let d = w .target .table .draft in
+      let s = g .shaped in
+      good-draft (w .target) (w .mem) g (withElement d e) (simp length-set (s .draftElements)) (s .draftId)
+      (joined-fit (w .target .table .entries) (s .entries) d (parts-of (w .target) (w .mem) g .table .draft) e (s .draftElements)
+      (not-true (eqb (d .active) 0) hand) room)
+
+  -- ---- processes
+
+  -- the state and the mark of one are set
+  pub good-state : (i s m : ℕ) → i < w .target .count → markFit s m ≡ true → Good (setState (w .target) i s m) (w .mem)
+  unfolding setState
+  good-state i s m h e =
+      good-processes (w .target) (w .mem) g _ (state-parts _ _ _ _ (parts-of (w .target) (w .mem) g .processes) i s m h e)
+
+  -- one is Stopped, and its mark cleared
+  pub good-stopped : (i : ℕ) (block : List ℕ) → i < w .target .count → GoodWorld (stopWith w i block)
+  unfolding stopWith
+  good-stopped i block h = good-state i stopped 0 h (mark-none stopped)
+
+  -- ---- breakpoints and bytes
+
+  -- a breakpoint is removed
+  pub good-removed : (k : ℕ) → k < length (w .target .table .entries) → isFree (entryAt (w .target .table .entries) k) ≡ false
+      → GoodWorld (removed w k)
+  unfolding removed
+  good-removed k h u = good-freed (w .target) (w .mem) g k (omega (arith, g .shaped .entries), u)
+
+  -- the one at an address is, where there is one
+  pub good-removed-at : (address : ℕ) → GoodWorld (removedAt w address)
+  unfolding removedAt
+  good-removed-at address =
+      let es = w .target .table .entries in
+      choose GoodWorld (ltb (breakpointAt es address) (length es))
+      (λ e. let h = ltb-true _ _ e in good-removed (breakpointAt es address) h (at-used es address h)) (λ e. g)
+
+  -- one is made
+  pub good-planted : (site : ℕ) → inHand w ≡ true → siteFree w site ≡ true
+      → wellFormed (w .target .table .draft .elements) (w .target .table .draft .count) ≡ true → GoodWorld (planted w site)
+  unfolding planted inHand siteFree madeEntry isFree entryOf
+  good-planted site hand free formed =
+      let es = w .target .table .entries in
+      let d = w .target .table .draft in
+      let o = hand-of d es (parts-of (w .target) (w .mem) g .table .draft) (not-true (eqb (d .active) 0) hand) in
+      let none : length es ≤ breakpointAt es site = search parts in
+      let eight = g .shaped .entries in
+      let fits : site + 2 ≤ w .target .base + w .target .size = search parts in
+      let low : w .target .base ≤ site = search parts in
+      good-made (w .target) (w .mem) g (firstFree es) (madeEntry w site) (o .room) (free-found es (omega (arith, o .room)))
+      (record { plain = refl; elements = g .shaped .draftElements; id = g .shaped .draftId }) refl
+      (record { one = refl; even = search parts depth 7; low = low; high = omega arith; formed = formed })
+      (λ j u e. omega (arith, id-first es (d .id) j (omega (arith, u .0)) (u .1) e, o .unused, u .0))
+      (λ j u e. omega (arith, at-first es site j (omega (arith, u .0)) (u .1) e, u .0))
+
+  -- bytes are written to the window
+  pub good-window : (addr : ℕ) (bytes : List ℕ) → GoodWorld (windowWritten w addr bytes)
+  unfolding windowWritten
+  good-window addr bytes = good-written (w .target) (w .mem) g (addr - w .target .base) bytes

@@ -1,0 +1,183 @@
+-- Memory and the book: real memory is the book's, and each change of the table leaves plain memory as the book says.
+use mathlib.Core.Path.{_≡_, refl, sym, ap, _∙_}
+use mathlib.Core.Bool.{Bool, true, false}
+use mathlib.Core.List.{List, [], _∷_}
+use Prim.Native.Nat.{ℕ, zero, suc, _+_, _-_, _*_, _<_}
+use native.Mathlib.Nat.{add-zero}
+use native.Mathlib.Omega.{arith}
+use lib.ListN.{length, getD, set, replicate, length-set, getD-replicate}
+use Rattle.fit.specs.Arrays.{siteOf, sitesOf, plainsOf}
+use Rattle.fit.specs.Fit.{entryAt}
+use Rattle.memory.specs.Overlay.{trap, noSite, covered, plainAt, plainOf, laidOver}
+use Rattle.memory.specs.Place.{placeOf}
+use Rattle.memory.specs.Write.{overwritten, memAfter, plainAfter}
+use Rattle.common.proofs.Cases.{on-test, on-same}
+use Rattle.memory.proofs.Slots.{no-site-free, covered-slot, covered-by}
+use Rattle.memory_laws.specs.Bytes.{length-plain-after}
+use Rattle.memory_laws.specs.Laws.{laid-plain, laid-same, plain-written, no-traps}
+use Rattle.memory_laws.specs.Planting.{planted-plain, removed-plain}
+use Rattle.target.specs.Free.{isFree}
+use Rattle.target.specs.Fresh.{freshEntry}
+use Rattle.target.specs.declared.Entry.{Entry}
+use Rattle.target.specs.declared.Target.{Target}
+use Rattle.rules.specs.Breakpoint.{sites, plains}
+use Rattle.rules.specs.Request.{withPlains}
+use Rattle.rules.specs.Book.{Breakpoint, Book, Setup, sitesBy, realBy}
+use Rattle.rules.specs.Facts.{Good, Used}
+use Rattle.rules.specs.Slots.{sites-set, plain-byte, sites-with, plains-with}
+use Rattle.rules.specs.FitFacts.{planted-of, slot-used, slot-free, slot-only, slot-byte, eight-sites, sixteen-plains}
+use Rattle.rules.specs.Agree.{dressed, Agree}
+use Rattle.rules.specs.Listed.{member-place, place-member, entry-here, entry-away}
+
+-- ---- real memory is the book's
+
+-- two tests that imply each other
+same-test : (a b : Bool) → (a ≡ true → b ≡ true) → (b ≡ true → a ≡ true) → a ≡ b
+same-test true b f g = sym (f refl)
+same-test false b f g = on-test b (λ e. g e ∙ sym e) (λ e. sym e)
+
+-- an offset is under a trap of the table where it is under one of the book
+pub same-covered : (s : Setup) (b : Book) (t : Target) (mem : List ℕ) → Agree s b t mem → (i : ℕ)
+    → covered 2 (sites t) i ≡ covered 2 (sitesBy s b) i
+unfolding sitesBy dressed
+same-covered s b t mem a i = same-test (covered 2 (sites t) i) (covered 2 (sitesBy s b) i) onto back
+  where
+    offset : Breakpoint → ℕ
+    offset x = x .site - s .base
+
+    es : List Entry
+    es = t .table .entries
+
+    slot : (k : ℕ) → Used t k → getD (sites t) k 0 ≡ offset (dressed (entryAt es k))
+    slot k u = slot-used t mem (a .good) k u ∙ ap (λ (n : ℕ). entryAt es k .site - n) (a .follows .base)
+
+    onto : covered 2 (sites t) i ≡ true → covered 2 (sitesBy s b) i ≡ true
+    onto e =
+        let c = covered-slot 2 (sites t) i e in
+        let k : ℕ = c .0 in
+        let below : k < 8 = omega (arith, c .1, eight-sites t mem (a .good)) in
+        on-test (isFree (entryAt es k))
+        (λ f. absurd (no-site-free 2 (omega arith) i (sym (c .2) ∙ slot-free t mem (a .good) k below f)))
+        (λ u. let m = member-place offset (b .breakpoints) _ (a .follows .breakpoints .into k (below, u)) in
+        covered-by 2 (sitesBy s b) i (m .0) (m .1) (m .2 ∙ sym (slot k (below, u)) ∙ c .2))
+
+    back : covered 2 (sitesBy s b) i ≡ true → covered 2 (sites t) i ≡ true
+    back e =
+        let c = covered-slot 2 (sitesBy s b) i e in
+        let m = place-member offset (b .breakpoints) (c .0) (c .1) in
+        let h = a .follows .breakpoints .from (m .0) (m .1) in
+        covered-by 2 (sites t) i (h .place) (omega (arith, h .used .0, eight-sites t mem (a .good)))
+        (slot (h .place) (h .used) ∙ ap offset (h .same) ∙ sym (m .2) ∙ c .2)
+
+-- real memory is plain memory with the traps of the book's breakpoints laid over it
+pub real-memory : (s : Setup) (b : Book) (t : Target) (mem : List ℕ) → Agree s b t mem → mem ≡ realBy s b
+unfolding realBy
+real-memory s b t mem a =
+    sym (laid-plain trap (sites t) (plains t) mem (planted-of t mem (a .good)))
+    ∙ ap (laidOver trap (sites t)) (a .follows .plain)
+    ∙ laid-same trap (sites t) (sitesBy s b) (b .plain) (same-covered s b t mem a)
+
+-- bytes lie where the setup says
+pub same-place : (s : Setup) (b : Book) (t : Target) (mem : List ℕ) → Agree s b t mem → (addr n : ℕ)
+    → placeOf (s .base) (s .size) addr n ≡ placeOf (t .base) (t .size) addr n
+same-place s b t mem a addr n =
+    sym (ap (λ (k : ℕ). placeOf k (t .size) addr n) (a .follows .base) ∙ ap (λ (k : ℕ). placeOf (s .base) k addr n) (a .follows .size))
+
+-- ---- the plain bytes of a table with one entry stored
+
+module _ (t : Target) (mem : List ℕ) (good : Good t mem) (k : ℕ) (e : Entry) (below : k < 8) (two : length (e .plain) ≡ 2) where
+  abbrev es : List Entry
+  es = t .table .entries
+
+  size : length (set es k e) ≡ 8
+  size = length-set es k e ∙ good .shaped .entries
+
+  here : entryAt (set es k e) k ≡ e
+  here = entry-here es k e (omega (arith, good .shaped .entries))
+
+  -- every entry has two plain bytes
+  wide : (j : ℕ) → j < length (set es k e) → length (entryAt (set es k e) j .plain) ≡ 2
+  wide j h = on-same j k
+      (λ q. ap (λ (x : Entry). length (x .plain)) (ap (entryAt (set es k e)) q ∙ here) ∙ two)
+      (λ n. ap (λ (x : Entry). length (x .plain)) (entry-away es k e j n) ∙ good .shaped .entry j (omega (arith, size)) .plain)
+
+  -- those of the entry
+  stored-plain : (r : ℕ) → r < 2 → getD (plainsOf (set es k e)) (k * 2 + r) 0 ≡ getD (e .plain) r 0
+  stored-plain r h =
+      plain-byte (set es k e) wide k r (omega (arith, size)) h ∙ ap (λ (x : Entry). getD (x .plain) r 0) here
+
+  -- and the others are as they were
+  kept-plain : (j r : ℕ) → j < 8 → r < 2 → (j ≡ k → ⊥) → getD (plainsOf (set es k e)) (j * 2 + r) 0 ≡ getD (plainsOf es) (j * 2 + r) 0
+  kept-plain j r h g n =
+      plain-byte (set es k e) wide j r (omega (arith, size)) g
+      ∙ ap (λ (x : Entry). getD (x .plain) r 0) (entry-away es k e j n)
+      ∙ sym (slot-byte t mem good j r h g)
+
+-- ---- plain memory stays as it was
+
+module _ (t : Target) (mem : List ℕ) (good : Good t mem) where
+  -- a breakpoint removed: entry k, with its plain bytes put back
+  pub plain-removed : (k : ℕ) → Used t k
+      → plainOf 2 (sitesOf (t .base) (set (t .table .entries) k freshEntry)) (plainsOf (set (t .table .entries) k freshEntry))
+      (laidOver (entryAt (t .table .entries) k .plain) ((entryAt (t .table .entries) k .site - t .base) ∷ []) mem)
+      ≡ plainOf 2 (sites t) (plains t) mem
+  unfolding siteOf isFree
+  plain-removed k u =
+      let e : Entry = entryAt (t .table .entries) k in
+      let wide : length (e .plain) ≡ 2 = good .shaped .entry k (u .0) .plain in
+      let slots : length (sites t) ≡ 8 = eight-sites t mem good in
+      rw (sites-set (t .base) (t .table .entries) k freshEntry, ← (slot-used t mem good k u))
+      (removed-plain 2 (sites t) mem (e .plain) k noSite wide (omega (arith, u .0))
+      (λ j h q. slot-only t mem good j k (omega arith) u q) (no-site-free 2 (omega arith))
+      (plains t) (plainsOf (set (t .table .entries) k freshEntry)) (omega arith)
+      (λ r h. sym (slot-byte t mem good k r (u .0) h))
+      (λ j r h g n. kept-plain t mem good k freshEntry (u .0) refl j r (omega arith) g n))
+
+  -- a breakpoint planted: entry k, which was free, with the plain bytes of the moment
+  pub plain-planted : (k : ℕ) (e : Entry) → k < 8 → isFree (entryAt (t .table .entries) k) ≡ true → isFree e ≡ false
+      → e .plain
+      ≡ plainAt 2 (sites t) (plains t) mem (e .site - t .base) ∷ plainAt 2 (sites t) (plains t) mem (e .site - t .base + 1) ∷ []
+      → plainOf 2 (sitesOf (t .base) (set (t .table .entries) k e)) (plainsOf (set (t .table .entries) k e))
+      (laidOver trap ((e .site - t .base) ∷ []) mem)
+      ≡ plainOf 2 (sites t) (plains t) mem
+  unfolding siteOf
+  plain-planted k e below free used bytes =
+      let slots : length (sites t) ≡ 8 = eight-sites t mem good in
+      rw (sites-set (t .base) (t .table .entries) k e, used)
+      (planted-plain trap (sites t) mem k s
+      (λ i q. no-site-free 2 (omega arith) i (q ∙ slot-free t mem good k below free))
+      (plains t) (plainsOf (set (t .table .entries) k e)) (omega arith) (omega arith)
+      (λ r h. stored-plain t mem good k e below (ap length bytes) r h ∙ ap (λ (l : List ℕ). getD l r 0) bytes ∙ byte r h)
+      (λ j r h g n. kept-plain t mem good k e below (ap length bytes) j r (omega arith) g n))
+    where
+      s : ℕ
+      s = e .site - t .base
+
+      byte : (r : ℕ) → r < 2
+          → getD (plainAt 2 (sites t) (plains t) mem s ∷ plainAt 2 (sites t) (plains t) mem (s + 1) ∷ []) r 0
+          ≡ plainAt 2 (sites t) (plains t) mem (s + r)
+      byte zero h = rw add-zero
+      byte (suc zero) h = refl
+      byte (suc (suc r)) h = absurd (omega arith)
+
+-- ---- a write puts its bytes into plain memory
+
+pub plain-overwritten : (t : Target) (mem : List ℕ) → Good t mem → (at : ℕ) (bytes : List ℕ)
+    → let es = withPlains (t .table .entries) (plainAfter 2 (sites t) (plains t) at bytes) in
+    plainOf 2 (sitesOf (t .base) es) (plainsOf es) (memAfter 2 (sites t) mem at bytes)
+    ≡ overwritten (plainOf 2 (sites t) (plains t) mem) at bytes
+plain-overwritten t mem good at bytes =
+    let after : List ℕ = plainAfter 2 (sites t) (plains t) at bytes in
+    let size : length after ≡ length (t .table .entries) * 2 =
+    length-plain-after 2 (sites t) (plains t) at bytes ∙ sixteen-plains t mem good ∙ rw (good .shaped .entries) in
+    rw (sites-with (t .base) (t .table .entries) after, plains-with (t .table .entries) after size)
+    (plain-written 2 (sites t) (plains t) mem at bytes (omega arith)
+    (sixteen-plains t mem good ∙ rw (eight-sites t mem good)))
+
+-- ---- with a fresh table plain memory is memory
+
+pub plain-fresh : (base : ℕ) (mem : List ℕ)
+    → plainOf 2 (sitesOf base (replicate 8 freshEntry)) (plainsOf (replicate 8 freshEntry)) mem ≡ mem
+unfolding sitesOf siteOf isFree
+plain-fresh base mem =
+    no-traps 2 (replicate 8 noSite) (λ j h. rw (getD-replicate 8 j noSite 0 h) (no-site-free 2 (omega arith))) _ mem

@@ -1,0 +1,199 @@
+-- The changes that steps make, one by one: the record and the book move together.
+use mathlib.Core.Path.{_≡_, refl, sym, ap, _∙_}
+use mathlib.Core.Bool.{Bool, true, false}
+use mathlib.Core.List.{List, []}
+use mathlib.Core.Option.{Option, none}
+use Prim.Native.Nat.{ℕ, _-_, _<_}
+use native.Mathlib.Omega.{arith}
+use lib.Dec.{eqb}
+use lib.ListN.{length, set}
+use Rattle.common.specs.Keys.{among}
+use Rattle.common.proofs.Same.{true-or-false}
+use Rattle.fit.specs.Fit.{processAt, entryAt}
+use Rattle.memory.specs.Overlay.{covered}
+use Rattle.memory.specs.Write.{overwritten}
+use Rattle.memory_laws.specs.Laws.{plain-set}
+use Rattle.target.specs.Free.{isFree, firstFree}
+use Rattle.target.specs.Fresh.{closedDraft}
+use Rattle.target.specs.declared.Draft.{Draft}
+use Rattle.target.specs.declared.Process.{Process}
+use Rattle.target.specs.declared.Target.{Target}
+use Rattle.rules.specs.Outcome.{world, replied}
+use Rattle.rules.specs.Record.{withTable, withEntries, withProcesses, withCurrent, setState}
+use Rattle.rules.specs.Record.{withDraft as withHand}
+use Rattle.rules.specs.Breakpoint.{sites, plains, madeEntry, planted, removed}
+use Rattle.rules.specs.Request.{windowWritten}
+use Rattle.rules.specs.Event.{restart}
+use Rattle.rules.specs.Book.{Breakpoint, Pending, Book, Setup, withPlain, withDraft, withBreakpoints, withStopped, without, sets}
+use Rattle.rules.specs.Facts.{Good, Used}
+use Rattle.rules.specs.FitFacts.{facts-of}
+use Rattle.rules.specs.Found.{free-found}
+use Rattle.rules.specs.KeptDraft.{hand-of}
+use Rattle.rules.specs.Agree.{dressed, pendingOf, Drafted, pidsOf, Halted, Follows}
+use Rattle.rules.specs.Listed.{listed-fresh, listed-written, listed-more, listed-all, listed-less}
+use Rattle.rules.specs.Laid.{plain-removed, plain-planted, plain-overwritten, plain-fresh}
+use Rattle.rules.specs.Halted.{pids-stored, halted-stored, pids-restarted, halted-restarted}
+
+-- with nothing in hand nothing is asked of the book's draft
+pub drafted-none : (o : Option Pending) → Drafted closedDraft o
+drafted-none o h = true-or-false (sym h)
+
+module _ (s : Setup) (b : Book) (t : Target) (mem : List ℕ) (v : Follows s b t mem) where
+  -- ---- the record alone
+
+  -- another current process
+  pub move-current : (selected pid : ℕ) → Follows s b (withCurrent t selected pid) mem
+  unfolding withCurrent
+  move-current selected pid = record {
+    base = v .base;
+    size = v .size;
+    count = v .count;
+    pids = v .pids;
+    plain = v .plain;
+    breakpoints = v .breakpoints;
+    draft = v .draft;
+    stopped = v .stopped;
+  }
+
+  -- another condition in hand
+  pub move-draft : (d : Draft) (o : Option Pending) → Drafted d o → Follows s (withDraft b o) (withHand t d) mem
+  unfolding withDraft withHand withTable
+  move-draft d o h = record {
+    base = v .base;
+    size = v .size;
+    count = v .count;
+    pids = v .pids;
+    plain = v .plain;
+    breakpoints = v .breakpoints;
+    draft = h;
+    stopped = v .stopped;
+  }
+
+  -- other processes, with the same pids
+  pub move-processes : (ps : List Process) (l : List ℕ) → pidsOf ps ≡ pidsOf (t .processes) → Halted (t .count) ps l
+      → Follows s (withStopped b l) (withProcesses t ps) mem
+  unfolding withStopped withProcesses
+  move-processes ps l same h = record {
+    base = v .base;
+    size = v .size;
+    count = v .count;
+    pids = rw same (v .pids);
+    plain = v .plain;
+    breakpoints = v .breakpoints;
+    draft = v .draft;
+    stopped = h;
+  }
+
+  -- one process set
+  pub move-state : (i state wanted : ℕ) (l : List ℕ) → i < length (t .processes) → eqb state 8 ≡ among l (processAt (t .processes) i .pid)
+      → ((j : ℕ) → j < t .count → (j ≡ i → ⊥)
+      → among l (processAt (t .processes) j .pid) ≡ among (b .stopped) (processAt (t .processes) j .pid))
+      → Follows s (withStopped b l) (setState t i state wanted) mem
+  unfolding setState
+  move-state i state wanted l below now rest =
+      move-processes _ l (pids-stored (t .processes) i state wanted)
+      (halted-stored (t .count) (t .processes) (b .stopped) l i state wanted below now rest (v .stopped))
+
+  -- ---- the table and memory
+
+  module _ (good : Good t mem) (regs : List ℕ) where
+    -- a breakpoint removed: the one for which the test holds
+    pub move-removed : (f : Breakpoint → Bool) (k : ℕ) → Used t k → f (dressed (entryAt (t .table .entries) k)) ≡ true
+        → ((j : ℕ) → Used t j → f (dressed (entryAt (t .table .entries) j)) ≡ true → j ≡ k)
+        → Follows s (withBreakpoints b (without f (b .breakpoints)))
+        (removed (world t mem regs) k .target) (removed (world t mem regs) k .mem)
+    unfolding removed withEntries withTable withBreakpoints
+    move-removed f k used holds only = record {
+      base = v .base;
+      size = v .size;
+      count = v .count;
+      pids = v .pids;
+      plain = plain-removed t mem good k used ∙ v .plain;
+      breakpoints = listed-less f (t .table .entries) (b .breakpoints) k (good .shaped .entries) used holds only (v .breakpoints);
+      draft = v .draft;
+      stopped = v .stopped;
+    }
+
+    -- none removed: the test holds for none
+    pub move-none : (f : Breakpoint → Bool) → ((j : ℕ) → Used t j → f (dressed (entryAt (t .table .entries) j)) ≡ false)
+        → Follows s (withBreakpoints b (without f (b .breakpoints))) t mem
+    unfolding withBreakpoints
+    move-none f fails = record {
+      base = v .base;
+      size = v .size;
+      count = v .count;
+      pids = v .pids;
+      plain = v .plain;
+      breakpoints = listed-all f (t .table .entries) (b .breakpoints) fails (v .breakpoints);
+      draft = v .draft;
+      stopped = v .stopped;
+    }
+
+    -- the condition in hand set as a breakpoint
+    pub move-planted : (site : ℕ) → eqb (t .table .draft .active) 0 ≡ false
+        → Follows s (withBreakpoints (withDraft b none) (sets (b .draft) site (b .breakpoints)))
+        (planted (world t mem regs) site .target) (planted (world t mem regs) site .mem)
+    unfolding planted madeEntry withTable withBreakpoints withDraft sets pendingOf dressed isFree
+    move-planted site e =
+        let es = t .table .entries in
+        let k = firstFree es in
+        let below : k < 8 = hand-of (t .table .draft) es (facts-of t mem good .draft) e .room in
+        let free : isFree (entryAt es k) ≡ true = free-found es (omega (arith, good .shaped .entries)) in
+        record {
+          base = v .base;
+          size = v .size;
+          count = v .count;
+          pids = v .pids;
+          plain = plain-planted t mem good k (madeEntry (world t mem regs) site) below free refl refl ∙ v .plain;
+          breakpoints = rw (v .draft e)
+              (listed-more es (b .breakpoints) k (madeEntry (world t mem regs) site) (good .shaped .entries) below free refl
+              (v .breakpoints));
+          draft = drafted-none none;
+          stopped = v .stopped;
+        }
+
+    -- bytes written
+    pub move-written : (addr : ℕ) (bytes : List ℕ)
+        → Follows s (withPlain b (overwritten (b .plain) (addr - t .base) bytes))
+        (windowWritten (world t mem regs) addr bytes .target) (windowWritten (world t mem regs) addr bytes .mem)
+    unfolding windowWritten withEntries withTable withPlain
+    move-written addr bytes = record {
+      base = v .base;
+      size = v .size;
+      count = v .count;
+      pids = v .pids;
+      plain = plain-overwritten t mem good (addr - t .base) bytes ∙ ap (λ l. overwritten l (addr - t .base) bytes) (v .plain);
+      breakpoints = listed-written (t .table .entries) _ (b .breakpoints) (good .shaped .entries) (v .breakpoints);
+      draft = v .draft;
+      stopped = v .stopped;
+    }
+
+  -- a restart
+  pub move-restart : (regs : List ℕ)
+      → let o = restart (world t mem regs) in
+      Follows s (withStopped (withBreakpoints b []) []) (o .after .target) (o .after .mem)
+  unfolding restart replied withStopped withBreakpoints
+  move-restart regs = record {
+    base = v .base;
+    size = v .size;
+    count = v .count;
+    pids = rw (pids-restarted (t .count) (t .processes)) (v .pids);
+    plain = plain-fresh (t .base) _ ∙ v .plain;
+    breakpoints = listed-fresh;
+    draft = drafted-none (b .draft);
+    stopped = halted-restarted (t .count) (t .processes);
+  }
+
+  -- an outside change of a byte under no trap
+  pub move-change : (i byte : ℕ) → covered 2 (sites t) i ≡ false → Follows s (withPlain b (set (b .plain) i byte)) t (set mem i byte)
+  unfolding withPlain
+  move-change i byte bare = record {
+    base = v .base;
+    size = v .size;
+    count = v .count;
+    pids = v .pids;
+    plain = plain-set 2 (sites t) (plains t) mem i byte bare ∙ ap (λ l. set l i byte) (v .plain);
+    breakpoints = v .breakpoints;
+    draft = v .draft;
+    stopped = v .stopped;
+  }

@@ -1,0 +1,45 @@
+-- 01, "Steps and numbers": what comes out of a step.
+use Prim.Native.Nat.{ℕ}
+use mathlib.Core.List.{List, []}
+use Rattle.wire.specs.declared.Message.{Message}
+use Rattle.wire.specs.declared.Message.the-variants.{Rerr}
+use Rattle.wire.specs.declared.Reason.{Reason}
+use Rattle.wire.specs.Message.{bytesOf}
+use Rattle.target.specs.declared.Target.{Target}
+use Rattle.rules.specs.declared.Answer.{Answer}
+use Rattle.rules.specs.declared.Answer.the-variants.{Nothing}
+
+-- the record, memory and the register area
+pub record World : Type 0 where
+  pub target : Target
+  pub mem : List ℕ
+  pub regs : List ℕ
+
+abbrev pub world : Target → List ℕ → List ℕ → World
+world t m r = record { target = t; mem = m; regs = r }
+
+-- the number, the answer, the world afterwards and the reply's bytes (none where a step has no reply)
+pub record Outcome : Type 0 where
+  pub number : ℕ
+  pub answer : Answer
+  pub after : World
+  pub reply : List ℕ
+
+abbrev pub outcome : ℕ → Answer → World → List ℕ → Outcome
+outcome n a w r = record { number = n; answer = a; after = w; reply = r }
+
+-- refused with a number: "all unchanged"
+unfoldable pub refused : ℕ → World → List ℕ → Outcome
+refused n w reply = outcome n Nothing w reply
+
+-- number 0, with an answer and no reply
+unfoldable pub answered : Answer → World → Outcome
+answered a w = outcome 0 a w []
+
+-- number 0, with a reply
+unfoldable pub replied : Message → World → Outcome
+replied m w = outcome 0 Nothing w (bytesOf m)
+
+-- number 0, with Rerr
+unfoldable pub error : Reason → World → Outcome
+error r w = replied (Rerr r) w

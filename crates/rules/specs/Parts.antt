@@ -1,0 +1,151 @@
+-- A good record, part by part: the window, the processes, the table with its traps. Assumes nothing.
+use mathlib.Core.Path.{_≡_, _∙_}
+use mathlib.Core.Bool.{true}
+use mathlib.Core.List.{List}
+use Prim.Native.Nat.{ℕ, _+_, _-_, _%_, _<_}
+use native.Mathlib.Omega.{arith}
+use lib.ListN.{length, getD}
+use Rattle.fit.specs.Arrays.{sitesOf}
+use Rattle.fit.specs.Fit.{windowFit, processesFit, marksFit, currentFit, draftFit, entryAt}
+use Rattle.memory.specs.Overlay.{trap, siteOver}
+use Rattle.memory.proofs.Slots.{covered-by}
+use Rattle.memory_laws.specs.Planted.{Planted}
+use Rattle.memory_laws.specs.Bytes.{planted-at}
+use Rattle.target.specs.declared.Process.{Process}
+use Rattle.target.specs.declared.Table.{Table}
+use Rattle.target.specs.declared.Target.{Target}
+use Rattle.rules.specs.Breakpoint.{sites}
+use Rattle.rules.specs.Facts.{ShapedEntry, Used, UsedFacts, Good}
+use Rattle.rules.specs.Record.{withTable, withProcesses, withCurrent}
+use Rattle.rules.specs.Slots.{length-sites, site-at, site-used}
+use Rattle.rules.specs.FitFacts.{parts, tests-of, facts-by, entries-fit, fit-by, planted-of}
+use Rattle.rules.specs.Rows.{Rows}
+
+-- n processes, and the one that is current
+pub record ProcessParts (ps : List Process) (n selected pid : ℕ) : Type 0 where
+  pub four : length ps ≡ 4
+  pub pids : processesFit ps n ≡ true
+  pub marks : marksFit ps n ≡ true
+  pub current : currentFit selected pid ps n ≡ true
+
+-- a table over memory, which is a window of n bytes at base
+pub record TableParts (base n : ℕ) (u : Table) (mem : List ℕ) : Type 0 where
+  pub eight : length (u .entries) ≡ 8
+  pub entry : (k : ℕ) → k < 8 → ShapedEntry (entryAt (u .entries) k)
+  pub draftElements : length (u .draft .elements) ≡ 16
+  pub draftId : u .draft .id < 256
+  pub draft : draftFit (u .draft) (u .entries) ≡ true
+  pub rows : Rows base n (u .entries)
+  pub planted : Planted trap (sitesOf base (u .entries)) mem
+  pub sized : length mem ≡ n
+
+-- the whole record and its memory
+pub record Parts (t : Target) (mem : List ℕ) : Type 0 where
+  pub window : windowFit (t .base) (t .size) ≡ true
+  pub processes : ProcessParts (t .processes) (t .count) (t .selected) (t .current)
+  pub table : TableParts (t .base) (t .size) (t .table) mem
+
+module _ (t : Target) (mem : List ℕ) where
+  -- a good record has the parts
+  pub parts-of : Good t mem → Parts t mem
+  parts-of g =
+      let c = tests-of t mem (g .fit) in
+      let f = facts-by t mem c in
+      record {
+        window = c .window;
+        processes = record { four = g .shaped .processes; pids = c .processes; marks = c .marks; current = c .current };
+        table = record {
+          eight = g .shaped .entries;
+          entry = g .shaped .entry;
+          draftElements = g .shaped .draftElements;
+          draftId = g .shaped .draftId;
+          draft = c .draft;
+          rows = record {
+            row = λ k u. let x = f .used k u in
+                record { one = x .one; even = x .even; low = x .low; high = rw (g .sized) at (x .high); formed = x .formed };
+            ids = f .idsDiffer;
+            sites = f .sitesDiffer;
+          };
+          planted = planted-of t mem g;
+          sized = g .sized;
+        };
+      }
+
+  module _ (c : Parts t mem) where
+    -- a used entry's trap stands in memory
+    used-by : (k : ℕ) → Used t k → UsedFacts t mem (entryAt (t .table .entries) k)
+    unfolding windowFit siteOver
+    used-by k (h, u) =
+        let w = c .window in
+        let x = c .table .rows .row k (h, u) in
+        let s = entryAt (t .table .entries) k .site - t .base in
+        let b : t .base % 4 ≡ 0 = search parts depth 8 in
+        let l : k < length (t .table .entries) = omega (arith, c .table .eight) in
+        let at : getD (sites t) k 0 ≡ s = site-at (t .base) (t .table .entries) k l ∙ site-used (t .base) _ u in
+        let d : k < length (sites t) = omega (arith, length-sites (t .base) (t .table .entries)) in
+        let z : s % 2 ≡ 0 = omega (arith, x .even, x .low) in
+        let o : (s + 1) % 2 ≡ 1 = omega arith in
+        let i : s + 1 < length mem = omega (arith, x .high, c .table .sized) in
+        let p = planted-at trap (sites t) mem (c .table .planted) in
+        record {
+          one = x .one;
+          even = x .even;
+          low = x .low;
+          high = omega arith;
+          formed = x .formed;
+          trap0 = p s (omega arith) (covered-by 2 (sites t) s k d (at ∙ omega arith)) ∙ rw z;
+          trap1 = p (s + 1) i (covered-by 2 (sites t) (s + 1) k d (at ∙ omega arith)) ∙ rw o;
+        }
+
+    -- a record that has the parts is good
+    pub good-of : Good t mem
+    good-of =
+        let p = c .processes in
+        let u = c .table in
+        record {
+          shaped = record {
+            entries = u .eight;
+            entry = u .entry;
+            draftElements = u .draftElements;
+            draftId = u .draftId;
+            processes = p .four;
+          };
+          fit = fit-by t mem (record {
+            window = c .window;
+            processes = p .pids;
+            marks = p .marks;
+            current = p .current;
+            draft = u .draft;
+            entries = entries-fit t mem used-by (u .rows .ids) (u .rows .sites);
+          });
+          sized = u .sized;
+        }
+
+-- ---- one part changed
+
+module _ (t : Target) (mem : List ℕ) (g : Good t mem) where
+  -- the table, and memory with it
+  pub good-table : (u : Table) (mem′ : List ℕ) → TableParts (t .base) (t .size) u mem′ → Good (withTable t u) mem′
+  unfolding withTable
+  good-table u mem′ c =
+      let o = parts-of t mem g in
+      good-of (withTable t u) mem′ (record { window = o .window; processes = o .processes; table = c })
+
+  -- the processes
+  pub good-processes : (ps : List Process) → ProcessParts ps (t .count) (t .selected) (t .current) → Good (withProcesses t ps) mem
+  unfolding withProcesses
+  good-processes ps c =
+      let o = parts-of t mem g in
+      good-of (withProcesses t ps) mem (record { window = o .window; processes = c; table = o .table })
+
+  -- the current process
+  pub good-current : (selected pid : ℕ) → currentFit selected pid (t .processes) (t .count) ≡ true → Good (withCurrent t selected pid) mem
+  unfolding withCurrent
+  good-current selected pid e =
+      let o = parts-of t mem g in
+      let p = o .processes in
+      good-of (withCurrent t selected pid) mem (record {
+        window = o .window;
+        table = o .table;
+        processes = record { four = p .four; pids = p .pids; marks = p .marks; current = e };
+      })

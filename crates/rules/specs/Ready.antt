@@ -1,0 +1,25 @@
+-- A fit record with its buffers and its table as arrays: what the inner functions of a step start from, and what they give.
+use mathlib.Core.Path.{_≡_}
+use mathlib.Core.Bool.{true}
+use mathlib.Core.List.{List}
+use Prim.Native.Nat.{ℕ, _*_}
+use lib.ListN.{length}
+use Rattle.fit.specs.Arrays.{idsOf, sitesOf, plainsOf}
+use Rattle.fit.specs.Fit.{fitOf}
+use Rattle.fit.specs.declared.Scan.{Scan}
+use Rattle.target.specs.declared.Target.{Target}
+use Rattle.rules.specs.declared.Answer.the-variants.{Nothing}
+use Rattle.rules.specs.declared.Served.{Served}
+use Rattle.rules.specs.Outcome.{world, Outcome, outcome}
+
+pub record Ready (t : Target) (s : Scan) (mem regs : List ℕ) : Type 0 where
+  pub fit : fitOf t mem ≡ true
+  pub ids : s .ids ≡ idsOf (t .table .entries)
+  pub sites : s .sites ≡ sitesOf (t .base) (t .table .entries)
+  pub plain : s .plain ≡ plainsOf (t .table .entries)
+  pub memory : length mem ≡ t .size
+  pub registers : length regs ≡ 136 * t .count
+
+-- an accepted request with what it leaves
+abbrev pub served : Served → List ℕ → List ℕ → Outcome
+served r mem regs = outcome 0 Nothing (world (r .target) mem regs) (r .bytes)

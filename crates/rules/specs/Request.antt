@@ -1,0 +1,169 @@
+-- 01, "Ten bytes (000)": the requests.
+use Prim.Native.Nat.{ℕ, zero, _+_, _-_, _*_}
+use Prim.Native.Char.{code}
+use mathlib.Core.Bool.{Bool, cond, not, _&&_}
+use mathlib.Core.List.{List, [], _∷_}
+use lib.Dec.{leb, ltb, eqb}
+use lib.ListN.{getD, take, drop}
+use Rattle.common.specs.Same.{allZero}
+use Rattle.memory.specs.Place.{placeOf}
+use Rattle.memory.specs.Write.{bytesAt, readOf, overwritten, memAfter, plainAfter}
+use Rattle.memory.specs.declared.Place.{Place}
+use Rattle.memory.specs.declared.Place.the-variants.{Registers, Window, Nowhere}
+use Rattle.fit.specs.Fit.{processAt}
+use Rattle.request.specs.declared.Parsed.{Parsed}
+use Rattle.request.specs.declared.Parsed.the-variants.{Request, Refused, NotTen}
+use Rattle.target.specs.declared.Entry.{Entry}
+use Rattle.target.specs.declared.Process.{Process}
+use Rattle.target.specs.declared.Target.{Target}
+use Rattle.wire.specs.Message.{bytes4}
+use Rattle.wire.specs.declared.Data4.{Data4}
+use Rattle.wire.specs.declared.Data9.{Data9}
+use Rattle.wire.specs.declared.Message.{Message}
+use Rattle.wire.specs.declared.Message.the-variants.{Tmget, Tmput, Tproc, Tstatus, Trnote, Tstop, Tstart, Tcondbreak, Rerr, Rmget, Rmput, Rproc, Rstatus, Rrnote, Rstop, Rstart, Rcondbreak}
+use Rattle.wire.specs.declared.Reason.{Reason}
+use Rattle.wire.specs.declared.Reason.the-variants.{Inval, Pid, Notstop}
+use Rattle.rules.specs.Outcome.{World, world, Outcome, replied, error, refused}
+use Rattle.rules.specs.Record.{ready, withEntries, withCurrent, indexOf, setState, isStopped, blockAt, pcOf}
+use Rattle.rules.specs.Breakpoint.{sites, plains, removedAt}
+use Rattle.rules.specs.Condition.{failed, condbreak}
+
+-- ---- "below 136 it is the current process's block: none current gives pid, not Stopped gives notstop"
+
+unfoldable pub onBlock : World → (ℕ → Outcome) → Outcome
+onBlock w serve =
+    let t = w .target in
+    let i = indexOf t (t .current) in
+    cond (eqb (t .selected) 0) (error Pid w) (cond (isStopped (processAt (t .processes) i)) (serve i) (error Notstop w))
+
+-- ---- Tmget: "answers n bytes, then zeros. Window bytes are the plain ones"
+
+-- nine bytes as the data of an Rmget
+unfoldable pub data9Of : List ℕ → Data9
+data9Of l = record {
+  b0 = getD l 0 0;
+  b1 = getD l 1 0;
+  b2 = getD l 2 0;
+  b3 = getD l 3 0;
+  b4 = getD l 4 0;
+  b5 = getD l 5 0;
+  b6 = getD l 6 0;
+  b7 = getD l 7 0;
+  b8 = getD l 8 0;
+}
+
+unfoldable pub gotFrom : Place → World → ℕ → ℕ → Outcome
+gotFrom Registers w addr n = onBlock w (λ i. replied (Rmget (data9Of (bytesAt (w .regs) (136 * i + addr) n 9))) w)
+gotFrom Window w addr n =
+    let t = w .target in
+    replied (Rmget (data9Of (readOf 2 (sites t) (plains t) (w .mem) (addr - t .base) n 9))) w
+gotFrom Nowhere w addr n = error Inval w
+
+-- "With n = 0 nothing else is looked at: served, nothing changed"
+unfoldable pub mget : World → ℕ → ℕ → Outcome
+mget w addr n =
+    let t = w .target in
+    cond (eqb n 0) (replied (Rmget (data9Of [])) w) (gotFrom (placeOf (t .base) (t .size) addr n) w addr n)
+
+-- ---- Tmput: "writes n bytes; a byte under a trap goes to the entry's plain bytes and the trap stays"
+
+-- entries with their plain bytes taken from the slots' bytes, one slot after the other
+unfoldable pub withPlains : List Entry → List ℕ → List Entry
+withPlains [] bytes = []
+withPlains (e ∷ es) bytes =
+    record { used = e .used; id = e .id; plain = take 2 bytes; site = e .site; count = e .count; elements = e .elements }
+    ∷ withPlains es (drop 2 bytes)
+
+-- the window with bytes written at an address
+unfoldable pub windowWritten : World → ℕ → List ℕ → World
+windowWritten w addr bytes =
+    let t = w .target in
+    let at = addr - t .base in
+    world (withEntries t (withPlains (t .table .entries) (plainAfter 2 (sites t) (plains t) at bytes)))
+    (memAfter 2 (sites t) (w .mem) at bytes) (w .regs)
+
+-- "A write that touches 0 to 3 (register zero) is inval, before pid"
+unfoldable pub putTo : Place → World → ℕ → List ℕ → Outcome
+putTo Registers w addr bytes =
+    cond (leb addr 3) (error Inval w)
+    (onBlock w (λ i. replied Rmput (world (w .target) (w .mem) (overwritten (w .regs) (136 * i + addr) bytes))))
+putTo Window w addr bytes = replied Rmput (windowWritten w addr bytes)
+putTo Nowhere w addr bytes = error Inval w
+
+unfoldable pub mput : World → ℕ → ℕ → Data4 → Outcome
+mput w addr n d =
+    let t = w .target in
+    cond (eqb n 0) (replied Rmput w) (putTo (placeOf (t .base) (t .size) addr n) w addr (take n (bytes4 d)))
+
+-- ---- "An unlisted pid in these five: pid"
+
+unfoldable pub onProcess : World → ℕ → (ℕ → Process → Outcome) → Outcome
+onProcess w pid serve =
+    let t = w .target in
+    let i = indexOf t pid in
+    cond (ltb i (t .count)) (serve i (processAt (t .processes) i)) (error Pid w)
+
+abbrev pub withTarget : World → Target → World
+withTarget w t = world t (w .mem) (w .regs)
+
+-- "makes the pid current; answer the Proc address"
+unfoldable pub proc : World → ℕ → Outcome
+proc w pid = onProcess w pid (λ i p. replied (Rproc (p .address)) (withTarget w (withCurrent (w .target) 1 pid)))
+
+unfoldable pub status : World → ℕ → Outcome
+status w pid = onProcess w pid (λ i p. replied (Rstatus (p .state)) w)
+
+unfoldable pub rnote : World → ℕ → Outcome
+rnote w pid = onProcess w pid (λ i p. replied Rrnote w)
+
+-- "marks a process that is not Stopped; a Stopped one is unchanged"
+unfoldable pub stop : World → ℕ → Outcome
+stop w pid =
+    onProcess w pid
+    (λ i p. replied Rstop (cond (isStopped p) w (withTarget w (setState (w .target) i (p .state) 1))))
+
+-- "clears the mark; a Stopped process becomes Ready, and a breakpoint at its saved pc is removed"
+unfoldable pub start : World → ℕ → Outcome
+start w pid =
+    onProcess w pid
+    (λ i p.
+    replied Rstart
+    (cond (isStopped p)
+    (removedAt (withTarget w (setState (w .target) i ready 0)) (pcOf (blockAt (w .regs) i)))
+    (withTarget w (setState (w .target) i (p .state) 0))))
+
+-- ---- a request that is a message
+
+unfoldable pub serve : World → Message → Outcome
+serve w (Tmget addr n) = mget w addr n
+serve w (Tmput addr n d) = mput w addr n d
+serve w (Tproc pid) = proc w pid
+serve w (Tstatus pid) = status w pid
+serve w (Trnote pid) = rnote w pid
+serve w (Tstop pid) = stop w pid
+serve w (Tstart pid) = start w pid
+serve w (Tcondbreak val op) = condbreak w val op
+serve w (Rerr r) = error Inval w
+serve w (Rmget d) = error Inval w
+serve w Rmput = error Inval w
+serve w (Rproc addr) = error Inval w
+serve w (Rstatus s) = error Inval w
+serve w Rrnote = error Inval w
+serve w Rstop = error Inval w
+serve w Rstart = error Inval w
+serve w Rcondbreak = error Inval w
+
+-- ---- a request that is refused by its bytes alone
+
+-- a Tcondbreak whose op is not d and three zeros
+unfoldable pub drops : List ℕ → Bool
+drops l = eqb (getD l 0 0) 16 && not (eqb (getD l 5 0) (code "d") && allZero (getD l 6 0 ∷ getD l 7 0 ∷ getD l 8 0 ∷ []))
+
+unfoldable pub refusedBy : World → List ℕ → Reason → Outcome
+refusedBy w l r = cond (drops l) (failed r w) (error r w)
+
+-- the request's ten bytes, over a fit record and buffers of the right size
+unfoldable pub requestBy : Parsed → World → List ℕ → List ℕ → Outcome
+requestBy (Request m) w l reply = serve w m
+requestBy (Refused r) w l reply = refusedBy w l r
+requestBy NotTen w l reply = refused 2 w reply

@@ -1,0 +1,153 @@
+-- Laws of a table as arrays of numbers: each slot's site, id and plain bytes, and one entry stored. Assumes nothing.
+use mathlib.Core.Path.{_≡_, refl, sym, ap, _∙_}
+use mathlib.Core.Bool.{true, false, cond}
+use mathlib.Core.List.{List, [], _∷_, _++_, map}
+use Prim.Native.Nat.{ℕ, zero, suc, _+_, _-_, _*_, _<_}
+use native.Mathlib.Nat.{not-suc-le-zero, le-of-suc-le-suc}
+use native.Mathlib.Omega.{arith}
+use lib.ListN.{length, getD, take, drop, set, length-append, length-drop, length-map, take-append-drop, List·getD-append}
+use lib.Seq.{getD-append-add, drop-drop}
+use Rattle.common.specs.First.{firstOf}
+use Rattle.memory.specs.Overlay.{noSite}
+use Rattle.fit.specs.Arrays.{noId, idOf, siteOf, idsOf, sitesOf, plainsOf}
+use Rattle.fit.specs.Fit.{entryAt}
+use Rattle.target.specs.Free.{isFree, firstFree}
+use Rattle.target.specs.Fresh.{noEntry}
+use Rattle.target.specs.declared.Entry.{Entry}
+use Rattle.rules.specs.Request.{withPlains}
+
+-- ---- a function of each element
+
+module _ {A B : Type 0} (f : A → B) where
+  map-at : (l : List A) (d : A) (d′ : B) (k : ℕ) → k < length l → getD (map f l) k d′ ≡ f (getD l k d)
+  map-at [] d d′ k h = absurd (not-suc-le-zero h)
+  map-at (x ∷ xs) d d′ zero h = refl
+  map-at (x ∷ xs) d d′ (suc k) h = map-at xs d d′ k (le-of-suc-le-suc h)
+
+  map-set : (l : List A) (k : ℕ) (y : A) → map f (set l k y) ≡ set (map f l) k (f y)
+  map-set [] k y = refl
+  map-set (x ∷ xs) zero y = refl
+  map-set (x ∷ xs) (suc k) y = ap (λ (l : List B). f x ∷ l) (map-set xs k y)
+
+-- ---- one slot
+
+module _ (base : ℕ) (e : Entry) where
+  pub site-used : isFree e ≡ false → siteOf base e ≡ e .site - base
+  unfolding siteOf
+  site-used u = rw u
+
+  pub site-free : isFree e ≡ true → siteOf base e ≡ noSite
+  unfolding siteOf
+  site-free u = rw u
+
+pub id-used : (e : Entry) → isFree e ≡ false → idOf e ≡ e .id
+unfolding idOf
+id-used e u = rw u
+
+pub id-free : (e : Entry) → isFree e ≡ true → idOf e ≡ noId
+unfolding idOf
+id-free e u = rw u
+
+-- ---- the slots
+
+module _ (base : ℕ) (es : List Entry) where
+  pub length-sites : length (sitesOf base es) ≡ length es
+  unfolding sitesOf
+  length-sites = length-map es (siteOf base)
+
+  pub site-at : (k : ℕ) → k < length es → getD (sitesOf base es) k 0 ≡ siteOf base (entryAt es k)
+  unfolding sitesOf
+  site-at k h = map-at (siteOf base) es noEntry 0 k h
+
+  pub sites-set : (k : ℕ) (e : Entry) → sitesOf base (set es k e) ≡ set (sitesOf base es) k (siteOf base e)
+  unfolding sitesOf
+  sites-set k e = map-set (siteOf base) es k e
+
+module _ (es : List Entry) where
+  pub length-ids : length (idsOf es) ≡ length es
+  unfolding idsOf
+  length-ids = length-map es idOf
+
+  pub id-at : (k : ℕ) → k < length es → getD (idsOf es) k 0 ≡ idOf (entryAt es k)
+  unfolding idsOf
+  id-at k h = map-at idOf es noEntry 0 k h
+
+  pub ids-set : (k : ℕ) (e : Entry) → idsOf (set es k e) ≡ set (idsOf es) k (idOf e)
+  unfolding idsOf
+  ids-set k e = map-set idOf es k e
+
+-- ---- the slots' plain bytes, where every entry has two
+
+abbrev pub TwoEach : List Entry → Type 0
+TwoEach es = (k : ℕ) → k < length es → length (entryAt es k .plain) ≡ 2
+
+pub length-plains : (es : List Entry) → TwoEach es → length (plainsOf es) ≡ length es * 2
+unfolding plainsOf
+length-plains [] two = refl
+length-plains (e ∷ es) two =
+    omega (arith, length-append (e .plain) (plainsOf es), two 0 (omega arith), length-plains es (λ k h. two (suc k) (omega arith)))
+
+pub plain-byte : (es : List Entry) → TwoEach es → (k r : ℕ) → k < length es → r < 2
+    → getD (plainsOf es) (k * 2 + r) 0 ≡ getD (entryAt es k .plain) r 0
+unfolding plainsOf
+plain-byte [] two k r h g = absurd (not-suc-le-zero h)
+plain-byte (e ∷ es) two zero r h g =
+    let z : length (e .plain) ≡ 2 = two 0 (omega arith) in
+    let p : 0 * 2 + r ≡ r = omega arith in
+    ap (λ (n : ℕ). getD (e .plain ++ plainsOf es) n 0) p ∙ List·getD-append (e .plain) (plainsOf es) 0 r (omega arith)
+plain-byte (e ∷ es) two (suc k) r h g =
+    let z : length (e .plain) ≡ 2 = two 0 (omega arith) in
+    let p : suc k * 2 + r ≡ length (e .plain) + (k * 2 + r) = omega arith in
+    ap (λ (n : ℕ). getD (e .plain ++ plainsOf es) n 0) p
+    ∙ getD-append-add (e .plain) (plainsOf es) (k * 2 + r) 0
+    ∙ plain-byte es (λ j l. two (suc j) (omega arith)) k r (le-of-suc-le-suc h) g
+
+-- ---- a table with other plain bytes
+
+-- an entry with other plain bytes
+abbrev pub withPlain : Entry → List ℕ → Entry
+withPlain e p = record { used = e .used; id = e .id; plain = p; site = e .site; count = e .count; elements = e .elements }
+
+pub length-with : (es : List Entry) (bytes : List ℕ) → length (withPlains es bytes) ≡ length es
+unfolding withPlains
+length-with [] bytes = refl
+length-with (e ∷ es) bytes = ap suc (length-with es (drop 2 bytes))
+
+-- entry k has bytes 2k and 2k + 1
+pub with-at : (es : List Entry) (bytes : List ℕ) (k : ℕ) → k < length es
+    → entryAt (withPlains es bytes) k ≡ withPlain (entryAt es k) (take 2 (drop (k * 2) bytes))
+unfolding withPlains
+with-at [] bytes k h = absurd (not-suc-le-zero h)
+with-at (e ∷ es) bytes zero h = refl
+with-at (e ∷ es) bytes (suc k) h =
+    let p : suc k * 2 ≡ 2 + k * 2 = omega arith in
+    with-at es (drop 2 bytes) k (le-of-suc-le-suc h)
+    ∙ ap (λ (l : List ℕ). withPlain (entryAt es k) (take 2 l)) (drop-drop (k * 2) 2 bytes ∙ ap (λ (n : ℕ). drop n bytes) (sym p))
+
+-- the slots' plain bytes are those that were put in
+pub plains-with : (es : List Entry) (bytes : List ℕ) → length bytes ≡ length es * 2 → plainsOf (withPlains es bytes) ≡ bytes
+unfolding withPlains plainsOf
+plains-with [] [] h = refl
+plains-with [] (b ∷ bs) h = absurd (omega arith)
+plains-with (e ∷ es) bytes h =
+    rw (plains-with es (drop 2 bytes) (omega (arith, length-drop 2 bytes))) (take-append-drop 2 bytes)
+
+-- what does not look at the plain bytes is as it was
+module _ {A : Type 0} (f : Entry → A) (same : (e : Entry) (p : List ℕ) → f (withPlain e p) ≡ f e) where
+  map-with : (es : List Entry) (bytes : List ℕ) → map f (withPlains es bytes) ≡ map f es
+  unfolding withPlains
+  map-with [] bytes = refl
+  map-with (e ∷ es) bytes = rw (same e (take 2 bytes), map-with es (drop 2 bytes))
+
+pub sites-with : (base : ℕ) (es : List Entry) (bytes : List ℕ) → sitesOf base (withPlains es bytes) ≡ sitesOf base es
+unfolding sitesOf siteOf isFree
+sites-with base es bytes = map-with (siteOf base) (λ e p. refl) es bytes
+
+pub ids-with : (es : List Entry) (bytes : List ℕ) → idsOf (withPlains es bytes) ≡ idsOf es
+unfolding idsOf idOf isFree
+ids-with es bytes = map-with idOf (λ e p. refl) es bytes
+
+pub first-with : (es : List Entry) (bytes : List ℕ) → firstFree (withPlains es bytes) ≡ firstFree es
+unfolding firstFree firstOf withPlains isFree
+first-with [] bytes = refl
+first-with (e ∷ es) bytes = ap (λ (n : ℕ). cond (isFree e) 0 (suc n)) (first-with es (drop 2 bytes))

@@ -1,0 +1,98 @@
+-- Demand 3: over every list of steps after an accepted setup, real memory and every answer are the book's.
+-- The relation (Agree.antt) holds after setup, and every step and every outside change keeps it; what is claimed follows from it.
+use mathlib.Core.Path.{_≡_, refl, ap, _∙_}
+use mathlib.Core.Bool.{false, _&&_}
+use mathlib.Core.List.{List, [], _∷_}
+use mathlib.Core.Option.{none}
+use Prim.Native.Nat.{ℕ, _*_}
+use native.Mathlib.Omega.{arith}
+use lib.Dec.{eqb}
+use lib.ListN.{length, set}
+use Rattle.fit.specs.Fit.{windowFit, processesFit}
+use Rattle.memory.specs.Overlay.{covered}
+use Rattle.target.specs.declared.Target.{Target}
+use Rattle.rules.specs.declared.Answer.the-variants.{Nothing}
+use Rattle.rules.specs.Outcome.{world, Outcome, answered}
+use Rattle.rules.specs.Breakpoint.{sites}
+use Rattle.rules.specs.Step.{setupTarget, setupOf, stepOf}
+use Rattle.rules.specs.Book.{Book, Setup, setupBy, opened, withPlain, fed, underTrap, Event, step, change, Claim, Demand3}
+use Rattle.rules.specs.Facts.{Good}
+use Rattle.rules.specs.FitFacts.{facts-of}
+use Rattle.rules.specs.KeptWorld.{choose}
+use Rattle.rules.specs.Kept.{good-setup, good-kept, good-change, never-three}
+use Rattle.rules.specs.Agree.{Follows, Agree}
+use Rattle.rules.specs.Listed.{listed-fresh}
+use Rattle.rules.specs.Laid.{same-covered, real-memory, plain-fresh}
+use Rattle.rules.specs.Halted.{halted-begun, pids-begun}
+use Rattle.rules.specs.Moves.{drafted-none, move-change}
+use Rattle.rules.specs.AfterStep.{after-step}
+use Rattle.rules.specs.Reads.{right-step}
+
+-- ---- an accepted setup
+
+module _ (s : Setup) where
+  abbrev begun : Target
+  begun = setupTarget (s .base) (s .size) (s .pids) (s .addresses) (s .count)
+
+  -- it answers the record that is set up
+  accepted : setupBy s .number ≡ 0 → setupBy s ≡ answered Nothing (world begun (s .mem) (s .regs))
+  unfolding setupBy setupOf
+  accepted =
+      let P : Outcome → Type 0 = λ o. o .number ≡ 0 → o ≡ answered Nothing (world begun (s .mem) (s .regs)) in
+      choose P (windowFit (s .base) (s .size) && processesFit (begun .processes) (s .count))
+      (λ e. choose P (eqb (length (s .mem)) (s .size) && eqb (length (s .regs)) (136 * s .count))
+      (λ f z. refl) (λ f z. absurd (omega arith)))
+      (λ e z. absurd (omega arith))
+
+  -- which follows the book that is opened
+  follows-setup : Good begun (s .mem) → Follows s (opened s) begun (s .mem)
+  unfolding setupTarget opened
+  follows-setup good =
+      let f = facts-of begun (s .mem) good in
+      record {
+        base = refl;
+        size = refl;
+        count = refl;
+        pids = pids-begun (s .pids) (s .addresses) (s .count) (f .few) (f .pids);
+        plain = plain-fresh (s .base) (s .mem);
+        breakpoints = listed-fresh;
+        draft = drafted-none none;
+        stopped = halted-begun (s .pids) (s .addresses) (s .count) (f .few);
+      }
+
+  pub agree-setup : setupBy s .number ≡ 0 → Agree s (opened s) (setupBy s .after .target) (s .mem)
+  unfolding answered
+  agree-setup h =
+      let same : setupBy s .after .target ≡ begun = ap (λ (o : Outcome). o .after .target) (accepted h) in
+      let good : Good begun (s .mem) = rw same at (good-setup s h) in
+      record { good = good-setup s h; follows = rw same (follows-setup good) }
+
+-- ---- every list
+
+-- an outside change under no trap
+agree-change : (s : Setup) (b : Book) (t : Target) (mem : List ℕ) (i byte : ℕ) → Agree s b t mem → underTrap s b i ≡ false
+    → Agree s (withPlain b (set (b .plain) i byte)) t (set mem i byte)
+unfolding underTrap
+agree-change s b t mem i byte a e =
+    let bare : covered 2 (sites t) i ≡ false = same-covered s b t mem a i ∙ e in
+    record { good = good-change t mem i byte (a .good) bare; follows = move-change s b t mem (a .follows) i byte bare }
+
+-- what is claimed holds wherever the relation does
+pub claimed : (es : List Event) (s : Setup) (b : Book) (t : Target) (mem : List ℕ) → Agree s b t mem → Claim s b t mem es
+unfolding Claim
+claimed [] s b t mem a = real-memory s b t mem a
+claimed (step e ∷ es) s b t mem a =
+    let o = stepOf t mem e in (
+      real-memory s b t mem a,
+      never-three t mem e (a .good),
+      right-step s b t mem a e,
+      claimed es s (fed s b e (o .number) (o .answer) (o .reply)) (o .after .target) (o .after .mem)
+          (record { good = good-kept t mem e (a .good); follows = after-step s b t mem a e }),
+    )
+claimed (change i byte ∷ es) s b t mem a = (
+  real-memory s b t mem a,
+  λ e. claimed es s (withPlain b (set (b .plain) i byte)) t (set mem i byte) (agree-change s b t mem i byte a e),
+)
+
+pub demand3 : Demand3
+demand3 s h es = claimed es s (opened s) (setupBy s .after .target) (s .mem) (agree-setup s h)

@@ -1,0 +1,65 @@
+-- `Table::first_free` meets its contract. The loop's invariant: no entry before place k is free. Assumes nothing.
+use Prim.Native.Nat.{_≤_, _-_}
+use mathlib.Core.Path.{_≡_, _∙_}
+use native.Mathlib.Omega.{arith}
+use borrow.Author.Needs.{needs}
+use borrow.Author.Tests.{eq-eqb, ne-eqb}
+use lib.ListN.{length}
+use Rattle.common.proofs.First.{Passed, begin, pass, stop, none}
+use Rattle.target.specs.Fresh.{noEntry}
+use Rattle.target.specs.Free.{isFree, firstFree}
+use Rattle.target.proofs.Shape.{table-entries}
+use Rattle.target.proofs.Table.first_free.Statement.{statement}
+use Rattle.target.proofs.Table.first_free.Tie as tie
+
+abbrev Inv-loop : tie.InvT-loop
+Inv-loop self k₀ k = (k ≤ 8) × (length (self .entries) ≡ 8) × Passed isFree (self .entries) k
+
+abbrev μ-loop : tie.MeasureT-loop
+μ-loop self k₀ k = 8 - k
+
+loop-holds : tie.Need-loop-holds Inv-loop μ-loop
+loop-holds c = (search needs, table-entries (c .args .t1) _ (c .good .0), begin _ _)
+
+mul-e : tie.Need-mul-e Inv-loop μ-loop
+mul-e c = search needs
+
+element-copy-out-e : tie.Need-element-copy-out-e Inv-loop μ-loop
+element-copy-out-e c = omega arith
+
+add-k : tie.Need-add-k Inv-loop μ-loop
+add-k c = omega arith
+
+loop-less : tie.Need-loop-less Inv-loop μ-loop
+loop-less c = omega arith
+
+loop-again : tie.Need-loop-again Inv-loop μ-loop
+unfolding isFree
+loop-again c =
+    let o = c .before .before .before .before in
+    (omega arith, o .loop .inv .1, pass _ _ noEntry _ 8 (o .loop .inv .1) (omega arith) (ne-eqb _ _ (c .if2 .left)) (o .loop .inv .2))
+
+returns : tie.Need-returns Inv-loop μ-loop
+unfolding firstFree
+returns c = c .if1 .taken ∙ none _ _ noEntry _ 8 (c .before .loop .inv .1) (c .if1 .taken) (c .before .loop .inv .2)
+
+returns-2 : tie.Need-returns-2 Inv-loop μ-loop
+unfolding firstFree isFree
+returns-2 c =
+    let o = c .before .before .before .before in
+    stop _ _ noEntry _ 8 (o .loop .inv .1) (omega arith) (eq-eqb _ _ (c .if2 .taken)) (o .loop .inv .2)
+
+pub first-free-spec : {M : Type 1} → statement M
+first-free-spec =
+    tie.close
+    (tie.spec
+    Inv-loop
+    μ-loop
+    loop-holds
+    mul-e
+    element-copy-out-e
+    add-k
+    loop-less
+    loop-again
+    returns
+    returns-2)
