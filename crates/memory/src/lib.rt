@@ -7,7 +7,7 @@ ghost use mathlib.Core.List.{_∷_, []};
 ghost use Prim.Native.Nat.{_+_, _≤_};
 ghost use lib.ListN.{length};
 ghost use Rattle.memory.specs.Overlay.{slotOf, plainAt, plainOf, laidOver};
-ghost use Rattle.memory.specs.Write.{readOf, memAfter, plainAfter};
+ghost use Rattle.memory.specs.Write.{memAfter, plainAfter};
 ghost use Rattle.memory.specs.Place.{placeOf, stretchOf};
 
 // Where the bytes that a request names lie.
@@ -50,23 +50,6 @@ pub fn plain_at(mem: &[u8], sites: &[u32; 8], plain: &[u8; 16], at: usize) -> u8
         return mem[at];
     }
     0
-}
-
-// The plain bytes of a stretch of the window, then zeros.
-pub fn read(mem: &[u8], sites: &[u32; 8], plain: &[u8; 16], at: usize, n: usize) -> [u8; 9]
-    requires { ⌜ at + n ≤ length (now mem) ⌝ }
-    ensures { λ r. ⌜ r ≡ readOf 2 (now (sites .entry)) (now (plain .entry)) (now (mem .entry)) at n 9 ⌝ }
-{
-    let mut out: [u8; 9] = [0; 9];
-    let mut j: usize = 0;
-    while j < 9 {
-        if j == n {
-            return out;
-        }
-        out[j] = plain_at(mem, sites, plain, at + j);
-        j += 1;
-    }
-    out
 }
 
 // Writes a stretch: each byte to memory or, under a trap, to the slot's plain bytes.

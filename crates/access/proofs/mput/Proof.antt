@@ -1,0 +1,129 @@
+-- `access::mput` meets its contract: nothing is written where n is 0, else the place that the address names decides. Assumes nothing.
+use mathlib.Core.Path.{sym}
+use native.Mathlib.Omega.{arith}
+use denote.Ref.{now}
+use borrow.Author.Needs.{needs}
+use lib.Seq.{length-take-le}
+use Rattle.rules.specs.Outcome.{world}
+use Rattle.rules.specs.Request.{putTo}
+use Rattle.wire.specs.Message.{bytes4}
+use Rattle.access.proofs.Laws.{ready-listed, named, within-registers, within-window, refuses, put-window, put-none, put-to}
+use Rattle.access.proofs.mput.Statement.{statement}
+use Rattle.access.proofs.mput.Tie as tie
+
+bytes-of-requires : tie.Need-bytes-of-requires
+bytes-of-requires c κs = search needs
+
+returns : tie.Need-returns
+returns c = put-none _ _ _ _ (c .if1 .taken) _ (c .before .bytes-of .ensures)
+
+place-of-requires : tie.Need-place-of-requires
+place-of-requires c κs = search needs
+
+enum-told : tie.Need-enum-told
+enum-told c = search needs
+
+array-share-prefix-bytes : tie.Need-array-share-prefix-bytes
+array-share-prefix-bytes c = search needs
+
+slice-aggregate-put-registers : tie.Need-slice-aggregate-put-registers
+slice-aggregate-put-registers c = sym (length-take-le _ _ (omega arith))
+
+put-registers-requires : tie.Need-put-registers-requires
+unfolding bytes4
+put-registers-requires c κs =
+    let e = c .before .before in
+    let k = e .before .before in
+    let s = k .before .before .before .before .before in
+    let a = s .args in
+    let h =
+    within-registers (a .t .base) (a .t .size) (a .addr) (a .n)
+    (named _ _ _ _ _ _ (k .place-of .ensures) (e .enum-told .given .1)) in
+    let z = length-take-le (a .n) (bytes4 (a .d)) (s .pre .1) in
+    (ready-listed _ _ _ _ (s .pre .0), omega arith)
+
+enum-told-2 : tie.Need-enum-told-2
+enum-told-2 c = search needs
+
+array-share-prefix-bytes-2 : tie.Need-array-share-prefix-bytes-2
+array-share-prefix-bytes-2 c = search needs
+
+slice-aggregate-put-window : tie.Need-slice-aggregate-put-window
+slice-aggregate-put-window c = sym (length-take-le _ _ (omega arith))
+
+put-window-requires : tie.Need-put-window-requires
+unfolding bytes4
+put-window-requires c κs =
+    let e = c .before .before in
+    let k = e .before .before in
+    let s = k .before .before .before .before .before in
+    let a = s .args in
+    let h =
+    within-window (a .t .base) (a .t .size) (a .addr) (a .n)
+    (named _ _ _ _ _ _ (k .place-of .ensures) (e .enum-told2 .given .1)) in
+    let z = length-take-le (a .n) (bytes4 (a .d)) (s .pre .1) in
+    let r = s .pre .0 in
+    (r .sites, r .plain, h .0, omega (arith, r .memory))
+
+enum-told-3 : tie.Need-enum-told-3
+enum-told-3 c = search needs
+
+rerr-requires : tie.Need-rerr-requires
+rerr-requires c κs = search needs
+
+same-length : tie.Need-same-length
+same-length c = search needs
+
+returns-2 : tie.Need-returns-2
+unfolding bytes4
+returns-2 c =
+    let p = c .before .before in
+    let e = p .before .before .before in
+    let k = e .before .before in
+    let a = k .before .before .before .before .before .args in
+    put-to (world (a .t) (now (a .mem)) (now (a .regs))) (a .addr) (a .n) (a .d) (k .before .if1 .left) _
+    (named _ _ _ _ _ _ (k .place-of .ensures) (e .enum-told .given .1)) _ (p .put-registers .ensures (now (a .mem)))
+
+same-length-2 : tie.Need-same-length-2
+same-length-2 c = search needs
+
+returns-3 : tie.Need-returns-3
+unfolding bytes4
+returns-3 c =
+    let p = c .before .before in
+    let e = p .before .before .before in
+    let k = e .before .before in
+    let a = k .before .before .before .before .before .args in
+    let w = world (a .t) (now (a .mem)) (now (a .regs)) in
+    put-to w (a .addr) (a .n) (a .d) (k .before .if1 .left) _ (named _ _ _ _ _ _ (k .place-of .ensures) (e .enum-told2 .given .1)) _
+    (put-window w (a .addr) _ _ _ (p .put-window .ensures (now (a .regs))) (k .before .before .bytes-of .ensures))
+
+returns-4 : tie.Need-returns-4
+unfolding putTo
+returns-4 c =
+    let k = c .before .before .before in
+    put-to _ _ _ _ (k .before .if1 .left) _ (named _ _ _ _ _ _ (k .place-of .ensures) (c .before .enum-told3 .given .1)) _
+    (refuses _ _ _ (c .rerr .ensures))
+
+pub mput-spec : {M : Type 1} → statement M
+mput-spec =
+    tie.close
+    (tie.spec
+    bytes-of-requires
+    returns
+    place-of-requires
+    enum-told
+    array-share-prefix-bytes
+    slice-aggregate-put-registers
+    put-registers-requires
+    enum-told-2
+    array-share-prefix-bytes-2
+    slice-aggregate-put-window
+    put-window-requires
+    enum-told-3
+    rerr-requires
+    same-length
+    returns-2
+    same-length-2
+    returns-3
+    returns-4)

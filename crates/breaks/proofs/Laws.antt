@@ -1,0 +1,153 @@
+-- Laws of finding a breakpoint, and of the tests of Tcondbreak. Assumes nothing.
+use mathlib.Core.Path.{_≡_, refl, sym, ap, _∙_}
+use mathlib.Core.Bool.{Bool, true, false}
+use mathlib.Core.List.{List, [], _∷_, map}
+use Prim.Native.Nat.{ℕ, suc, _+_, _-_, _%_, _<_, _≤_}
+use native.Mathlib.Omega.{arith}
+use borrow.Author.Tests.{eq-eqb, ne-eqb, le-leb, lt-leb}
+use lib.Dec.{eqb, leb}
+use lib.ListN.{length, getD}
+use mir.Val.{Val}
+use denote.Laws.{Is}
+use Rattle.common.specs.First.{firstOf}
+use Rattle.common.specs.Tab.{tab}
+use Rattle.common.proofs.First.{first-within}
+use Rattle.common.proofs.Tab.{tab-sized}
+use Rattle.condition.specs.Add.{addOf}
+use Rattle.condition.specs.declared.Added.{Added}
+use Rattle.condition.specs.declared.Room.{Room}
+use Rattle.fit.specs.Arrays.{siteOf, sitesOf}
+use Rattle.fit.specs.Fit.{entryAt, entryOf, draftTest, draftFit}
+use Rattle.fit.specs.declared.Scan.{Scan}
+use Rattle.memory.specs.Overlay.{siteOver, slotOf}
+use Rattle.common.proofs.Cases.{on-less, on-same}
+use Rattle.rules.specs.Breakpoint.{sites, isAt, breakpointAt}
+use Rattle.rules.specs.Condition.{inHand, joined, addElement, siteFree}
+use Rattle.rules.specs.Facts.{Shaped, Good}
+use Rattle.rules.specs.FitFacts.{parts, facts-of}
+use Rattle.rules.specs.Found.{at-used, at-site}
+use Rattle.rules.specs.Outcome.{World}
+use Rattle.rules.specs.Ready.{Ready}
+use Rattle.target.specs.Free.{isFree, firstFree}
+use Rattle.target.specs.Fresh.{noEntry}
+use Rattle.target.specs.declared.Draft.{Draft}
+use Rattle.target.specs.declared.Element.{Element}
+use Rattle.target.specs.declared.Entry.{Entry}
+use Rattle.target.specs.declared.Target.{Target}
+use Rattle.target.proofs.Shape.{EntryShape, entry-shape, draft-shape, table-entries, table-entry, table-draft, target-shape, target-table}
+use Rattle.target.proofs.Target as target
+
+-- ---- a record of the code is shaped and, where it is fit, good
+
+-- each of its entries has its shape
+pub shape-at : (t : Target) (vs : List Val) (k : ℕ) → Is target.the-row t vs → k < 8 → EntryShape (entryAt (t .table .entries) k)
+shape-at t vs k h l =
+    let (_, u) = target-table t vs h in
+    let (_, e) = table-entry (t .table) _ k u l in
+    entry-shape (entryAt (t .table .entries) k) _ e
+
+-- and so has the whole
+pub shaped-of : (t : Target) (vs : List Val) → Is target.the-row t vs → Shaped t
+shaped-of t vs h =
+    let (_, u) = target-table t vs h in
+    let (_, d) = table-draft (t .table) _ u in
+    let draft = draft-shape (t .table .draft) _ d in
+    record {
+      entries = table-entries (t .table) _ u;
+      entry = λ k l. let s = shape-at t vs k h l in record { plain = s .plain; elements = s .elements; id = s .id };
+      draftElements = draft .elements;
+      draftId = draft .id;
+      processes = target-shape t vs h .processes;
+    }
+
+-- what a step starts from is a good record
+pub ready-good : (t : Target) (vs : List Val) (s : Scan) (mem regs : List ℕ) → Is target.the-row t vs → Ready t s mem regs → Good t mem
+ready-good t vs s mem regs h r = record { shaped = shaped-of t vs h; fit = r .fit; sized = r .memory }
+
+-- the two plain bytes of an entry
+pub two-bytes : (l : List ℕ) → length l ≡ 2 → l ≡ getD l 0 0 ∷ getD l 1 0 ∷ []
+unfolding tab
+two-bytes l h = tab-sized l 0 2 h
+
+-- ---- the breakpoint at an address is the slot that covers its offset
+
+-- a search in a list of values finds what the same search finds in the list that they are of
+first-map : {A B : Type 0} (f : B → Bool) (g : A → B) (p : A → Bool) (l : List A) (d : A)
+    → ((k : ℕ) → k < length l → f (g (getD l k d)) ≡ p (getD l k d)) → firstOf f (map g l) ≡ firstOf p l
+unfolding firstOf
+first-map f g p [] d same = refl
+first-map f g p (x ∷ xs) d same = rw (same 0 (omega arith), first-map f g p xs d (λ k h. same (suc k) (omega arith)))
+
+module _ (base address : ℕ) (low : base ≤ address) (even : (address - base) % 2 ≡ 0) where
+  -- an entry's slot covers the offset where the entry is at the address
+  slot-at : (e : Entry) → (isFree e ≡ false → base ≤ e .site) → eqb (siteOver 2 (address - base)) (siteOf base e) ≡ isAt address e
+  unfolding siteOf siteOver isAt
+  slot-at e h = by (isFree e) refl
+    where
+      by : (b : Bool) → isFree e ≡ b → eqb (siteOver 2 (address - base)) (siteOf base e) ≡ isAt address e
+      by true u = rw u (ne-eqb (siteOver 2 (address - base)) 1 (λ p. omega arith))
+      by false u =
+          let l : base ≤ e .site = h u in
+          rw u (on-same (e .site) address (λ p. rw (eq-eqb (e .site) address p) (eq-eqb (siteOver 2 (address - base)) (e .site - base) (omega arith))) (λ n. rw (ne-eqb (e .site) address n) (ne-eqb (siteOver 2 (address - base)) (e .site - base) (λ p. n (omega arith)))))
+
+  -- so the first slot that covers the offset is the first breakpoint at the address
+  pub slot-found : (es : List Entry) → ((k : ℕ) → k < length es → isFree (entryAt es k) ≡ false → base ≤ entryAt es k .site)
+      → slotOf 2 (sitesOf base es) (address - base) ≡ breakpointAt es address
+  unfolding slotOf sitesOf breakpointAt
+  slot-found es h = first-map _ (siteOf base) (isAt address) es noEntry (λ k l. slot-at (entryAt es k) (h k l))
+
+-- no breakpoint is at an address where the search ends
+pub at-end : (es : List Entry) (address : ℕ) → length es ≡ 8 → eqb (breakpointAt es address) 8 ≡ leb (length es) (breakpointAt es address)
+unfolding breakpointAt
+at-end es address h =
+    let k = breakpointAt es address in
+    let z = first-within (isAt address) es in
+    on-less k 8 (λ l. ne-eqb k 8 (λ e. omega arith) ∙ sym (lt-leb (length es) k (omega arith))) (λ l. eq-eqb k 8 (omega arith) ∙ sym (le-leb (length es) k (omega arith)))
+
+module _ (t : Target) (mem : List ℕ) (g : Good t mem) (address : ℕ) where
+  -- the slot of an even offset finds the breakpoint
+  pub at-even : t .base ≤ address → (address - t .base) % 2 ≡ 0
+      → slotOf 2 (sites t) (address - t .base) ≡ breakpointAt (t .table .entries) address
+  at-even low even =
+      slot-found (t .base) address low even (t .table .entries)
+      (λ k h u. facts-of t mem g .used k (omega (arith, g .shaped .entries), u) .low)
+
+  -- an address that no used entry can have is none's
+  pub at-none : (t .base ≤ address → address % 2 ≡ 0 → ⊥) → 8 ≡ breakpointAt (t .table .entries) address
+  unfolding breakpointAt
+  at-none never =
+      let es = t .table .entries in
+      let k = breakpointAt es address in
+      on-less k 8 (λ h.
+      let l : k < length es = omega (arith, g .shaped .entries) in
+      let e = facts-of t mem g .used k (h, at-used es address l) in
+      absurd (never (omega (arith, e .low, at-site es address l)) (omega (arith, e .even, at-site es address l)))) (λ h. omega (arith, first-within (isAt address) es, g .shaped .entries))
+
+-- ---- the breakpoint with an id is the one that the scan's ids name
+
+pub id-found : (t : Target) (s : Scan) (mem regs : List ℕ) (id : ℕ) → Ready t s mem regs
+    → firstOf (eqb id) (s .ids) ≡ entryOf (t .table .entries) id
+unfolding entryOf
+id-found t s mem regs id r = ap (firstOf (eqb id)) (r .ids)
+
+-- ---- the requests
+
+-- an element joins, or does not, as what is tried with it says
+pub add-joined : (w : World) (e : Element) (a : Added) (r : Room)
+    → (w .target .table .draft .active ≡ 0 → ⊥) → a ≡ addOf (w .target .table .draft) e → a .room ≡ r → joined w a r ≡ addElement w e
+unfolding addElement inHand
+add-joined w e a r h p q = rw (ne-eqb (w .target .table .draft .active) 0 h, ← p) (ap (joined w a) (sym q))
+
+-- a free entry waits for a condition in hand
+pub draft-room : (d : Draft) (es : List Entry) → draftFit d es ≡ true → (d .active ≡ 0 → ⊥) → firstFree es < 8
+unfolding draftFit draftTest
+draft-room d es e h = let f = rw (ne-eqb (d .active) 0 h) at e in search parts depth 8
+
+-- a site for a breakpoint lies in the window
+pub site-low : (w : World) (val : ℕ) → siteFree w val ≡ true → w .target .base ≤ val
+unfolding siteFree
+site-low w val e = search parts depth 8
+
+pub site-high : (w : World) (val : ℕ) → siteFree w val ≡ true → val + 2 ≤ w .target .base + w .target .size
+unfolding siteFree
+site-high w val e = search parts depth 8

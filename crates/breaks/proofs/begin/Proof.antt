@@ -1,0 +1,124 @@
+-- `breaks::begin` meets its contract: the ids of the scan are the table's, so that each test decides as the definition's does.
+-- Assumes nothing.
+use mathlib.Core.Path.{_≡_, sym, _∙_}
+use mathlib.Core.Bool.{cond}
+use mathlib.Core.List.{List}
+use Prim.Native.Nat.{ℕ, _≤_, _<_}
+use native.Mathlib.Omega.{arith}
+use borrow.Author.Needs.{needs}
+use borrow.Author.Tests.{lt-ltb, le-ltb, le-leb, lt-leb}
+use denote.Ref.{now}
+use lib.Dec.{leb}
+use lib.ListN.{length}
+use Rattle.common.proofs.First.{first-within}
+use Rattle.fit.specs.Fit.{entryOf}
+use Rattle.rules.specs.Condition.{failed, begun, beginCondition}
+use Rattle.rules.specs.Outcome.{world, replied}
+use Rattle.rules.specs.Record.{withDraft}
+use Rattle.target.specs.Free.{isFree, firstFree}
+use Rattle.target.specs.declared.Target.{Target}
+use Rattle.wire.specs.declared.Message.the-variants.{Rcondbreak}
+use Rattle.wire.specs.declared.Reason.the-variants.{Count, Inval}
+use Rattle.breaks.proofs.Laws.{shaped-of, id-found}
+use Rattle.breaks.proofs.begin.Statement.{statement}
+use Rattle.breaks.proofs.begin.Tie as tie
+
+module _ (t : Target) (mem regs : List ℕ) (val : ℕ) (eight : length (t .table .entries) ≡ 8) (small : val ≤ 255) where
+  -- the id is in use
+  used : entryOf (t .table .entries) val < 8 → failed Inval (world t mem regs) ≡ beginCondition (world t mem regs) val
+  unfolding beginCondition
+  used h = rw (le-ltb 255 val small, lt-ltb (entryOf (t .table .entries) val) (length (t .table .entries)) (omega arith))
+
+  module _ (new : 8 ≤ entryOf (t .table .entries) val) where
+    unused : beginCondition (world t mem regs) val
+        ≡ cond (leb (length (t .table .entries)) (firstFree (t .table .entries)))
+        (failed Count (world t mem regs)) (replied Rcondbreak (world (withDraft t (begun val)) mem regs))
+    unfolding beginCondition
+    unused = rw (le-ltb 255 val small, le-ltb (entryOf (t .table .entries) val) (length (t .table .entries)) (omega arith))
+
+    -- no entry is free
+    full : firstFree (t .table .entries) ≡ 8 → failed Count (world t mem regs) ≡ beginCondition (world t mem regs) val
+    full h = sym (unused ∙ rw (le-leb (length (t .table .entries)) (firstFree (t .table .entries)) (omega arith)))
+
+    begins : (firstFree (t .table .entries) ≡ 8 → ⊥)
+        → replied Rcondbreak (world (withDraft t (begun val)) mem regs) ≡ beginCondition (world t mem regs) val
+    unfolding firstFree
+    begins h =
+        let z = first-within isFree (t .table .entries) in
+        sym (unused ∙ rw (lt-leb (length (t .table .entries)) (firstFree (t .table .entries)) (omega arith)))
+
+-- where the code starts, from where it has looked for the id
+abbrev start : tie.After-entry-of → tie.Start
+start f = f .before .before .before .before .before .before
+
+found : (f : tie.After-entry-of) → f .entry-of .result ≡ entryOf (start f .args .t .table .entries) (start f .args .val)
+found f = let s = start f in f .entry-of .ensures ∙ id-found (s .args .t) _ _ _ (s .args .val) (s .pre)
+
+eight-at : (s : tie.Start) → length (s .args .t .table .entries) ≡ 8
+eight-at s = shaped-of (s .args .t) _ (s .good .0) .entries
+
+fail-requires : tie.Need-fail-requires
+fail-requires c κs = search needs
+
+returns : tie.Need-returns
+unfolding beginCondition
+returns c = rw (lt-ltb 255 _ (c .before .if1 .taken)) (c .fail .ensures _ _)
+
+entry-of-requires : tie.Need-entry-of-requires
+entry-of-requires c κs = search needs
+
+fail-requires-2 : tie.Need-fail-requires-2
+fail-requires-2 c κs = search needs
+
+returns-2 : tie.Need-returns-2
+returns-2 c =
+    let f = c .before .before in
+    let s = start f in
+    c .fail2 .ensures _ _ ∙ used (s .args .t) _ _ (s .args .val) (eight-at s) (omega arith) (omega (arith, found f))
+
+first-free-requires : tie.Need-first-free-requires
+first-free-requires c κs = search needs
+
+fail-requires-3 : tie.Need-fail-requires-3
+fail-requires-3 c κs = search needs
+
+returns-3 : tie.Need-returns-3
+returns-3 c =
+    let f = c .before .before .before .before .before in
+    let s = start f in
+    c .fail3 .ensures _ _ ∙ full (s .args .t) _ _ (s .args .val) (eight-at s) (omega arith) (omega (arith, found f)) (omega arith)
+
+closed-requires : tie.Need-closed-requires
+closed-requires c κs = search needs
+
+cast-d : tie.Need-cast-d
+cast-d c = search needs
+
+with-draft-requires : tie.Need-with-draft-requires
+with-draft-requires c κs = search needs
+
+returns-4 : tie.Need-returns-4
+unfolding begun
+returns-4 c =
+    let e = c .before .before in
+    let f = e .before .before .before .before in
+    let s = start f in
+    (rw (c .before .closed .ensures) at (c .with-draft .ensures (now (s .args .mem)) (now (s .args .regs))))
+    ∙ begins (s .args .t) _ _ (s .args .val) (eight-at s) (omega arith) (omega (arith, found f)) (λ h. e .if3 .left (omega arith))
+
+pub begin-spec : {M : Type 1} → statement M
+begin-spec =
+    tie.close
+    (tie.spec
+    fail-requires
+    returns
+    entry-of-requires
+    fail-requires-2
+    returns-2
+    first-free-requires
+    fail-requires-3
+    returns-3
+    closed-requires
+    cast-d
+    with-draft-requires
+    returns-4)

@@ -1,0 +1,98 @@
+-- `breaks::delete` meets its contract: the ids of the scan are the table's, and an entry that is found is used, so that
+-- its site is in the window. Assumes nothing.
+use mathlib.Core.Path.{_≡_, ap, _∙_}
+use Prim.Native.Nat.{_<_}
+use native.Mathlib.Omega.{arith}
+use borrow.Author.Needs.{needs}
+use borrow.Author.Tests.{lt-ltb, le-ltb, le-leb, lt-leb}
+use denote.Ref.{now}
+use lib.ListN.{length}
+use Rattle.fit.specs.Fit.{entryOf}
+use Rattle.rules.specs.Condition.{deleteBreakpoint}
+use Rattle.rules.specs.FitFacts.{facts-of}
+use Rattle.rules.specs.Found.{id-is-used}
+use Rattle.rules.specs.Outcome.{replied, error}
+use Rattle.wire.specs.declared.Message.the-variants.{Rcondbreak}
+use Rattle.breaks.proofs.Laws.{shaped-of, ready-good, id-found}
+use Rattle.breaks.proofs.delete.Statement.{statement}
+use Rattle.breaks.proofs.delete.Tie as tie
+
+-- where the code starts, from where it has looked for the id
+abbrev start : tie.After-entry-of → tie.Start
+start f = f .before .before .before .before .before .before .before
+
+found : (f : tie.After-entry-of) → f .entry-of .result ≡ entryOf (start f .args .t .table .entries) (start f .args .val)
+found f = let s = start f in f .entry-of .ensures ∙ id-found (s .args .t) _ _ _ (s .args .val) (s .pre)
+
+eight : (s : tie.Start) → length (s .args .t .table .entries) ≡ 8
+eight s = shaped-of (s .args .t) _ (s .good .0) .entries
+
+bytes-of-requires : tie.Need-bytes-of-requires
+bytes-of-requires c κs = search needs
+
+returns : tie.Need-returns
+unfolding deleteBreakpoint error replied
+returns c = rw (lt-leb _ 255 (c .if1 .taken), c .before .bytes-of .ensures)
+
+entry-of-requires : tie.Need-entry-of-requires
+entry-of-requires c κs = search needs
+
+remove-requires : tie.Need-remove-requires
+remove-requires c κs =
+    let t = c .before in
+    let f = t .before in
+    let s = start f in
+    let es = s .args .t .table .entries in
+    let val = s .args .val in
+    let g = ready-good (s .args .t) _ _ _ _ (s .good .0) (s .pre) in
+    let k : entryOf es val < 8 = omega (arith, found f) in
+    let u = id-is-used es val (omega arith) (omega (arith, eight s)) in
+    record { below = t .if2 .taken; low = rw (found f) (facts-of _ _ g .used _ (k, u) .low) }
+
+bytes-of-requires-2 : tie.Need-bytes-of-requires-2
+bytes-of-requires-2 c κs = search needs
+
+same-length : tie.Need-same-length
+same-length c = search needs
+
+returns-2 : tie.Need-returns-2
+unfolding deleteBreakpoint replied
+returns-2 c =
+    let r = c .before .before .before in
+    let f = r .before .before .before in
+    let s = start f in
+    let es = s .args .t .table .entries in
+    let val = s .args .val in
+    rw (
+      le-leb val 255 (omega arith),
+      lt-ltb (entryOf es val) (length es) (omega (arith, eight s, found f)),
+      c .bytes-of2 .ensures,
+      ← found f,
+    )
+    (ap (replied Rcondbreak) (r .remove .ensures (now (s .args .regs))))
+
+returns-3 : tie.Need-returns-3
+unfolding deleteBreakpoint error replied
+returns-3 c =
+    let f = c .before in
+    let s = start f in
+    let es = s .args .t .table .entries in
+    let val = s .args .val in
+    rw (
+      le-leb val 255 (omega arith),
+      le-ltb (entryOf es val) (length es) (omega (arith, eight s, found f)),
+      f .before .before .before .before .bytes-of .ensures,
+    )
+
+pub delete-spec : {M : Type 1} → statement M
+delete-spec =
+    tie.close
+    (tie.spec
+    bytes-of-requires
+    returns
+    entry-of-requires
+    remove-requires
+    bytes-of-requires-2
+    same-length
+    returns-2
+    returns-3)

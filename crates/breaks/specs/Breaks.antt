@@ -1,0 +1,21 @@
+-- What removing a breakpoint and making one need of the record.
+use mathlib.Core.Path.{_≡_}
+use mathlib.Core.List.{List}
+use Prim.Native.Nat.{ℕ, _+_, _-_, _%_, _≤_, _<_}
+use lib.ListN.{length}
+use Rattle.fit.specs.Fit.{entryAt}
+use Rattle.fit.specs.declared.Scan.{Scan}
+use Rattle.rules.specs.Breakpoint.{sites, plains}
+use Rattle.target.specs.Free.{firstFree}
+use Rattle.target.specs.declared.Target.{Target}
+
+pub record Removable (t : Target) (k : ℕ) : Type 0 where
+  pub below : k < 8
+  pub low : t .base ≤ entryAt (t .table .entries) k .site
+
+pub record Plantable (t : Target) (s : Scan) (mem : List ℕ) (site : ℕ) : Type 0 where
+  pub traps : s .sites ≡ sites t
+  pub plain : s .plain ≡ plains t
+  pub low : t .base ≤ site
+  pub high : site - t .base + 2 ≤ length mem
+  pub free : firstFree (t .table .entries) < 8

@@ -1,0 +1,127 @@
+-- Laws of the requests on a process: whether it is listed, its state, its saved pc and the breakpoint there. Assumes nothing.
+use mathlib.Core.Path.{_≡_}
+use mathlib.Core.Bool.{true, cond}
+use mathlib.Core.List.{List, [], _∷_}
+use Prim.Native.Nat.{ℕ, _+_, _*_, _<_, _≤_}
+use native.Mathlib.Omega.{arith}
+use borrow.Author.Tests.{lt-ltb, le-ltb, eq-eqb, ne-eqb}
+use lib.ListN.{length, getD, set}
+use lib.Seq.{set-set, getD-set-same, getD-take, getD-drop}
+use Rattle.common.specs.Bytes.{ofHighFirst}
+use Rattle.fit.specs.Fit.{stopped, processAt, entryAt, fitOf}
+use Rattle.rules.specs.Breakpoint.{breakpointAt, removed, removedAt}
+use Rattle.rules.specs.Facts.{Facts}
+use Rattle.rules.specs.FitFacts.{tests-of, facts-by}
+use Rattle.rules.specs.Found.{at-used}
+use Rattle.rules.specs.Outcome.{World, Outcome, outcome, replied, error}
+use Rattle.rules.specs.Record.{ready, withProcesses, withState, setState, indexOf, isStopped, blockAt, pcOf}
+use Rattle.rules.specs.Request.{onProcess, withTarget, start}
+use Rattle.rules.specs.declared.Answer.the-variants.{Nothing}
+use Rattle.target.specs.Fresh.{noProcess}
+use Rattle.target.specs.declared.Process.{Process}
+use Rattle.target.specs.declared.Target.{Target}
+use Rattle.wire.specs.Message.{bytesOf}
+use Rattle.wire.specs.declared.Message.{Message}
+use Rattle.wire.specs.declared.Message.the-variants.{Rstart}
+use Rattle.wire.specs.declared.Reason.the-variants.{Pid}
+
+-- an outcome whose bytes are a message's is its reply
+pub replies : (m : Message) (w : World) (b : List ℕ) → b ≡ bytesOf m → outcome 0 Nothing w b ≡ replied m w
+unfolding replied
+replies m w b e = rw e
+
+-- ---- the state set, then the mark
+
+pub set-both : (t : Target) (i state wanted : ℕ) → i < length (t .processes)
+    → (let p = processAt (t .processes) i in
+    let ps = set (t .processes) i (withState p state (p .wanted)) in
+    withProcesses t (set ps i (withState (processAt ps i) (processAt ps i .state) wanted)))
+    ≡ setState t i state wanted
+unfolding setState withState
+set-both t i state wanted h = rw (getD-set-same (t .processes) i _ noProcess h, set-set)
+
+-- ---- a request on a process, by whether its pid is listed
+
+module _ (w : World) (pid i : ℕ) (e : i ≡ indexOf (w .target) pid) where
+  -- it is not: Rerr pid
+  pub unlisted : w .target .count ≤ i → (serve : ℕ → Process → Outcome) → error Pid w ≡ onProcess w pid serve
+  unfolding onProcess
+  unlisted h serve = rw (← e, le-ltb i (w .target .count) h)
+
+  module _ (h : i < w .target .count) where
+    -- it is: what the request says of its process
+    pub listed : (serve : ℕ → Process → Outcome) → serve i (processAt (w .target .processes) i) ≡ onProcess w pid serve
+    unfolding onProcess
+    listed serve = rw (← e, lt-ltb i (w .target .count) h)
+
+    -- Tstop and Tstart: one world for a Stopped process, another for any other
+    module _ (m : Message) (yes no : ℕ → Process → World) where
+      abbrev pub by-state : ℕ → Process → Outcome
+      by-state j p = replied m (cond (isStopped p) (yes j p) (no j p))
+
+      pub when-stopped : processAt (w .target .processes) i .state ≡ stopped
+          → replied m (yes i (processAt (w .target .processes) i)) ≡ onProcess w pid by-state
+      unfolding isStopped
+      when-stopped s = rw (eq-eqb _ stopped s) at (listed by-state)
+
+      pub when-not : (processAt (w .target .processes) i .state ≡ stopped → ⊥)
+          → replied m (no i (processAt (w .target .processes) i)) ≡ onProcess w pid by-state
+      unfolding isStopped
+      when-not s = rw (ne-eqb _ stopped s) at (listed by-state)
+
+-- ---- the saved pc
+
+module _ (regs : List ℕ) (i : ℕ) where
+  block-byte : (at k : ℕ) → k < 136 → at ≡ 136 * i + k → getD (blockAt regs i) k 0 ≡ getD regs at 0
+  unfolding blockAt
+  block-byte at k h e = rw (e, getD-take, getD-drop)
+
+  pub saved-pc : (at : ℕ) → at ≡ 136 * i + 132
+      → ofHighFirst (getD regs at 0 ∷ getD regs (at + 1) 0 ∷ getD regs (at + 2) 0 ∷ getD regs (at + 3) 0 ∷ []) ≡ pcOf (blockAt regs i)
+  unfolding pcOf
+  saved-pc at h =
+      rw (
+        block-byte at 132 (omega arith) h,
+        block-byte (at + 1) 133 (omega arith) (omega arith),
+        block-byte (at + 2) 134 (omega arith) (omega arith),
+        block-byte (at + 3) 135 (omega arith) (omega arith),
+      )
+
+-- ---- the breakpoint at an address, of a fit record
+
+pub facts : (t : Target) (mem : List ℕ) → fitOf t mem ≡ true → Facts t mem
+facts t mem e = facts-by t mem (tests-of t mem e)
+
+module _ (w : World) (address k : ℕ) (z : length (w .target .table .entries) ≡ 8)
+    (e : k ≡ breakpointAt (w .target .table .entries) address) where
+  -- none is there: nothing is removed
+  none-at : 8 ≤ k → w ≡ removedAt w address
+  unfolding removedAt
+  none-at h = rw (← e, le-ltb k (length (w .target .table .entries)) (omega arith))
+
+  -- the one that is there is removed
+  one-at : k < 8 → removed w k ≡ removedAt w address
+  unfolding removedAt
+  one-at h = rw (← e, lt-ltb k (length (w .target .table .entries)) (omega arith))
+
+-- Tstart of a Stopped process, by what is found at its saved pc
+module _ (w : World) (pid i : ℕ) (e : i ≡ indexOf (w .target) pid) (l : i < w .target .count)
+    (s : processAt (w .target .processes) i .state ≡ stopped) (z : length (w .target .table .entries) ≡ 8)
+    (u : Target) (r : u ≡ setState (w .target) i ready 0)
+    (pc k : ℕ) (p : pc ≡ pcOf (blockAt (w .regs) i)) (f : k ≡ breakpointAt (w .target .table .entries) pc) where
+  -- no breakpoint: only the state is set
+  pub start-none : 8 ≤ k → replied Rstart (withTarget w u) ≡ start w pid
+  unfolding start setState withProcesses
+  start-none h = rw (r, none-at (withTarget w (setState (w .target) i ready 0)) pc k z f h, p) (when-stopped _ _ _ e l _ _ _ s)
+
+  -- a breakpoint: it is removed
+  pub start-one : k < 8 → (v : World) → v ≡ removed (withTarget w u) k → replied Rstart v ≡ start w pid
+  unfolding start setState withProcesses
+  start-one h v d = rw (d, r, one-at (withTarget w (setState (w .target) i ready 0)) pc k z f h, p) (when-stopped _ _ _ e l _ _ _ s)
+
+-- the site of a breakpoint that is found is not below the window
+pub site-low : (t : Target) (mem : List ℕ) (address k : ℕ) → fitOf t mem ≡ true → length (t .table .entries) ≡ 8
+    → k ≡ breakpointAt (t .table .entries) address → k < 8 → t .base ≤ entryAt (t .table .entries) k .site
+site-low t mem address k f z e h =
+    let l : breakpointAt (t .table .entries) address < 8 = omega arith in
+    rw e (facts t mem f .used _ (l, at-used (t .table .entries) address (omega arith)) .low)

@@ -1,0 +1,129 @@
+-- `control::start` meets its contract: the tests decide as whether the pid is listed, its process Stopped, and a breakpoint
+-- at its saved pc; a fit record has the site of that one in the window. Assumes nothing.
+use mathlib.Core.Path.{_≡_, _∙_}
+use Prim.Native.Nat.{_<_, _≤_}
+use native.Mathlib.Omega.{arith}
+use borrow.Author.Needs.{needs}
+use lib.ListN.{length}
+use Rattle.rules.specs.Record.{withProcesses, setState}
+use Rattle.rules.specs.Request.{start}
+use Rattle.target.proofs.Shape.{table-entries, target-table}
+use Rattle.control.proofs.Laws.{replies, unlisted, when-not, facts, start-none, start-one, site-low}
+use Rattle.control.proofs.start.Statement.{statement}
+use Rattle.control.proofs.start.Tie as tie
+
+-- the table has eight entries
+eight : (c : tie.Start) → length (c .args .t .table .entries) ≡ 8
+eight c = let (_, u) = target-table (c .args .t) _ (c .good .0) in table-entries (c .args .t .table) _ u
+
+-- the processes are at most four, so that one that is listed is below
+few : (c : tie.Start) → c .args .t .count ≤ 4
+few c = facts (c .args .t) _ (c .pre .fit) .few
+
+below : (c : tie.Else1) → c .before .process-of .result < 4
+below c = omega (arith, few (c .before .before .before .before .before .before))
+
+cast-n : tie.Need-cast-n
+cast-n c = search needs
+
+process-of-requires : tie.Need-process-of-requires
+process-of-requires c κs = few (c .before .before .before .before)
+
+no-process-requires : tie.Need-no-process-requires
+no-process-requires c κs = search needs
+
+returns : tie.Need-returns
+unfolding start
+returns c =
+    let q = c .before .before in
+    c .no-process .ensures _ _ ∙ unlisted _ _ _ (q .process-of .ensures) (c .before .if1 .taken) _
+
+bytes-of-requires : tie.Need-bytes-of-requires
+bytes-of-requires c κs = search needs
+
+mul-p : tie.Need-mul-p
+mul-p c = search needs
+
+array-copy-out-p : tie.Need-array-copy-out-p
+array-copy-out-p c = below (c .before)
+
+set-state-requires : tie.Need-set-state-requires
+set-state-requires c κs = below (c .before .before .before .before)
+
+returns-2 : tie.Need-returns-2
+unfolding start
+returns-2 c =
+    let b = c .before .before .before .before in
+    let q = b .before in
+    rw (c .set-state .ensures)
+    (replies _ _ _ (b .bytes-of .ensures) ∙ when-not _ _ _ (q .before .process-of .ensures) (q .if1 .left) _ _ _ (c .before .if2 .taken))
+
+set-state-requires-2 : tie.Need-set-state-requires-2
+set-state-requires-2 c κs = below (c .before .before .before .before)
+
+pc-at-requires : tie.Need-pc-at-requires
+pc-at-requires c κs = search needs
+
+breakpoint-at-requires : tie.Need-breakpoint-at-requires
+breakpoint-at-requires c κs = search needs
+
+same-length : tie.Need-same-length
+same-length c = search needs
+
+returns-3 : tie.Need-returns-3
+returns-3 c =
+    let a = c .before in
+    let r = a .before .before .before in
+    let b = r .before .before .before .before in
+    let q = b .before in
+    let s = q .before .before .before .before .before .before in
+    replies _ _ _ (b .bytes-of .ensures)
+    ∙ start-none _ _ _ (q .before .process-of .ensures) (q .if1 .left) (r .before .if2 .left) (eight s) _ (r .set-state2 .ensures)
+    _ _ (a .before .before .pc-at .ensures) (a .breakpoint-at .ensures) (c .if3 .taken)
+
+remove-requires : tie.Need-remove-requires
+unfolding setState withProcesses
+remove-requires c κs =
+    let a = c .before .before in
+    let r = a .before .before .before in
+    let s = r .before .before .before .before .before .before .before .before .before .before .before in
+    let k : a .breakpoint-at .result < 8 = c .before .if3 .left in
+    rw (r .set-state2 .ensures)
+    (record { below = k; low = site-low (s .args .t) _ _ _ (s .pre .fit) (eight s) (a .breakpoint-at .ensures) k })
+
+same-length-2 : tie.Need-same-length-2
+same-length-2 c = search needs
+
+returns-4 : tie.Need-returns-4
+returns-4 c =
+    let m = c .before .before in
+    let a = m .before .before .before in
+    let r = a .before .before .before in
+    let b = r .before .before .before .before in
+    let q = b .before in
+    let s = q .before .before .before .before .before .before in
+    replies _ _ _ (b .bytes-of .ensures)
+    ∙ start-one _ _ _ (q .before .process-of .ensures) (q .if1 .left) (r .before .if2 .left) (eight s) _ (r .set-state2 .ensures)
+    _ _ (a .before .before .pc-at .ensures) (a .breakpoint-at .ensures) (m .before .before .if3 .left) _ (m .remove .ensures _)
+
+pub start-spec : {M : Type 1} → statement M
+start-spec =
+    tie.close
+    (tie.spec
+    cast-n
+    process-of-requires
+    no-process-requires
+    returns
+    bytes-of-requires
+    mul-p
+    array-copy-out-p
+    set-state-requires
+    returns-2
+    set-state-requires-2
+    pc-at-requires
+    breakpoint-at-requires
+    same-length
+    returns-3
+    remove-requires
+    same-length-2
+    returns-4)

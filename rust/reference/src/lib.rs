@@ -1,0 +1,49 @@
+//! An independent reference of the debug stub that document 01 describes.
+//!
+//! It is written from the papers alone and shares nothing with the product. The stub lives in a
+//! [`Stub`]; memory and the register area are lent to every step. A step is refused by a
+//! [`Refusal`], whose [`number`](Refusal::number) is that of 01's table; number 0 is `Ok`.
+
+#![forbid(unsafe_code)]
+
+mod condition;
+mod event;
+mod list;
+mod message;
+mod program;
+mod record;
+mod request;
+mod window;
+
+pub use condition::{depth, Element, Elements};
+pub use event::Verdict;
+pub use list::List;
+pub use message::{read, state_text, write, Message, Reason};
+pub use program::{body_length, Output, Session};
+pub use record::{fit, Breakpoint, Draft, Process, Refusal, Stub};
+
+/// The bytes of a message, of a request and of a reply.
+pub const MESSAGE: usize = 10;
+/// The bytes of one process in the register area: 34 words.
+pub const BLOCK: usize = 136;
+/// Where pc stands in a block.
+pub const PC: usize = 132;
+/// c.ebreak as it stands in memory.
+pub const TRAP: [u8; 2] = [0x02, 0x90];
+/// The breakpoints that a table has room for.
+pub const ENTRIES: usize = 8;
+/// The elements that a condition has room for.
+pub const ELEMENTS: usize = 16;
+/// The processes that a record has room for.
+pub const PROCESSES: usize = 4;
+/// The highest id of a breakpoint.
+pub const LAST_ID: u32 = 255;
+/// The state byte of a process that may run.
+pub const READY: u8 = 2;
+/// The state byte of a process that the debugger holds.
+pub const STOPPED: u8 = 8;
+
+/// Four bytes, high-order first. Fewer bytes give the number that those are.
+fn word(bytes: &[u8]) -> u32 {
+    bytes.iter().take(4).fold(0, |sum, &byte| (sum << 8) | u32::from(byte))
+}
