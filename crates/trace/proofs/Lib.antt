@@ -1,0 +1,4 @@
+pub mod Book
+pub mod Runs
+pub mod Steps
+pub mod Writes
