@@ -1,16 +1,14 @@
--- The current process's block, and the bytes that a read answers from the part of a buffer that its address names.
+-- The current process's block.
 use mathlib.Core.Path.{_≡_}
-use Prim.Native.Nat.{ℕ, _+_, _*_, _%_, _≤_}
+use Prim.Native.Nat.{ℕ, _*_, _≤_}
 use mathlib.Core.Bool.{true, cond}
 use mathlib.Core.List.{List}
-use lib.Dec.{ltb, eqb}
-use lib.ListN.{length, getD}
-use Rattle.common.specs.Tab.{tab}
+use lib.Dec.{eqb}
+use lib.ListN.{length}
 use Rattle.fit.specs.Fit.{processAt, currentFit}
-use Rattle.memory.specs.Overlay.{slotOf, covered}
 use Rattle.rules.specs.Record.{indexOf, isStopped}
 use Rattle.target.specs.declared.Target.{Target}
-use Rattle.wire.specs.declared.Reason.the-variants.{Pid, Notstop}
+use Rattle.text.specs.declared.Reason.the-variants.{Pid, Notstop}
 use Rattle.access.specs.declared.Block.{Block}
 use Rattle.access.specs.declared.Block.the-variants.{At, Refused}
 
@@ -25,12 +23,3 @@ unfoldable pub blockOf : Target → Block
 blockOf t =
     cond (eqb (t .selected) 0) (Refused Pid)
     (cond (isStopped (processAt (t .processes) (indexOf t (t .current)))) (At (indexOf t (t .current))) (Refused Notstop))
-
--- a part of the window from offset at on, its bytes under traps taken from the slots' plain bytes, then zeros
-unfoldable pub partRead : List ℕ → List ℕ → List ℕ → ℕ → List ℕ
-partRead sites plain part at =
-    tab 9
-    (λ j.
-    cond (ltb j (length part))
-    (cond (covered 2 sites (at + j)) (getD plain (slotOf 2 sites (at + j) * 2 + (at + j) % 2) 0) (getD part j 0))
-    0)

@@ -14,10 +14,9 @@ use Rattle.common.specs.Tab.{tab}
 use Rattle.common.proofs.First.{first-within}
 use Rattle.common.proofs.Tab.{tab-sized}
 use Rattle.condition.specs.Add.{addOf}
-use Rattle.condition.specs.declared.Added.{Added}
 use Rattle.condition.specs.declared.Room.{Room}
 use Rattle.fit.specs.Arrays.{siteOf, sitesOf}
-use Rattle.fit.specs.Fit.{entryAt, entryOf, draftTest, draftFit}
+use Rattle.fit.specs.Fit.{entryAt, entryOf}
 use Rattle.fit.specs.declared.Scan.{Scan}
 use Rattle.memory.specs.Overlay.{siteOver, slotOf}
 use Rattle.common.proofs.Cases.{on-less, on-same}
@@ -28,9 +27,8 @@ use Rattle.rules.specs.FitFacts.{parts, facts-of}
 use Rattle.rules.specs.Found.{at-used, at-site}
 use Rattle.rules.specs.Outcome.{World}
 use Rattle.rules.specs.Ready.{Ready}
-use Rattle.target.specs.Free.{isFree, firstFree}
+use Rattle.target.specs.Free.{isFree}
 use Rattle.target.specs.Fresh.{noEntry}
-use Rattle.target.specs.declared.Draft.{Draft}
 use Rattle.target.specs.declared.Element.{Element}
 use Rattle.target.specs.declared.Entry.{Entry}
 use Rattle.target.specs.declared.Target.{Target}
@@ -133,15 +131,10 @@ id-found t s mem regs id r = ap (firstOf (eqb id)) (r .ids)
 -- ---- the requests
 
 -- an element joins, or does not, as what is tried with it says
-pub add-joined : (w : World) (e : Element) (a : Added) (r : Room)
-    → (w .target .table .draft .active ≡ 0 → ⊥) → a ≡ addOf (w .target .table .draft) e → a .room ≡ r → joined w a r ≡ addElement w e
+pub add-joined : (w : World) (e : Element) (r : Room) → (w .target .table .draft .active ≡ 0 → ⊥)
+    → addOf (w .target .table .draft) e .room ≡ r → joined w (addOf (w .target .table .draft) e) r ≡ addElement w e
 unfolding addElement inHand
-add-joined w e a r h p q = rw (ne-eqb (w .target .table .draft .active) 0 h, ← p) (ap (joined w a) (sym q))
-
--- a free entry waits for a condition in hand
-pub draft-room : (d : Draft) (es : List Entry) → draftFit d es ≡ true → (d .active ≡ 0 → ⊥) → firstFree es < 8
-unfolding draftFit draftTest
-draft-room d es e h = let f = rw (ne-eqb (d .active) 0 h) at e in search parts depth 8
+add-joined w e r h q = rw (ne-eqb (w .target .table .draft .active) 0 h, q)
 
 -- a site for a breakpoint lies in the window
 pub site-low : (w : World) (val : ℕ) → siteFree w val ≡ true → w .target .base ≤ val

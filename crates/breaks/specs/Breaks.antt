@@ -1,12 +1,11 @@
 -- What removing a breakpoint and making one need of the record.
 use mathlib.Core.Path.{_≡_}
 use mathlib.Core.List.{List}
-use Prim.Native.Nat.{ℕ, _+_, _-_, _%_, _≤_, _<_}
+use Prim.Native.Nat.{ℕ, _+_, _-_, _≤_, _<_}
 use lib.ListN.{length}
 use Rattle.fit.specs.Fit.{entryAt}
 use Rattle.fit.specs.declared.Scan.{Scan}
 use Rattle.rules.specs.Breakpoint.{sites, plains}
-use Rattle.target.specs.Free.{firstFree}
 use Rattle.target.specs.declared.Target.{Target}
 
 pub record Removable (t : Target) (k : ℕ) : Type 0 where
@@ -18,4 +17,3 @@ pub record Plantable (t : Target) (s : Scan) (mem : List ℕ) (site : ℕ) : Typ
   pub plain : s .plain ≡ plains t
   pub low : t .base ≤ site
   pub high : site - t .base + 2 ≤ length mem
-  pub free : firstFree (t .table .entries) < 8

@@ -1,18 +1,19 @@
 // Breakpoints: finding and removing one, and the requests of Tcondbreak, over a fit record and its table as arrays.
 use condition::Room;
 use fit::Scan;
+use rules::Change;
 use rules::Served;
-use target::Draft;
 use target::Element;
-use target::Entry;
 use target::Target;
+use text::Reason;
 use wire::Message;
-use wire::Reason;
 ghost use mathlib.Core.Path.{_≡_};
 ghost use mathlib.Core.List.{List};
 ghost use Prim.Native.Nat.{ℕ};
+ghost use lib.ListN.{replicate};
+ghost use Rattle.target.specs.declared.Target.{Target};
 ghost use Rattle.rules.specs.Outcome.{world, replied};
-ghost use Rattle.rules.specs.Record.{withDraft};
+ghost use Rattle.rules.specs.Change.{without, applied};
 ghost use Rattle.rules.specs.Ready.{Ready, served};
 ghost use Rattle.rules.specs.Breakpoint.{breakpointAt, removed, planted};
 ghost use Rattle.rules.specs.Condition.{failed, siteFree, beginCondition, addElement, setBreakpoint, deleteBreakpoint, condbreak as condbreakOf};
@@ -35,125 +36,81 @@ pub fn breakpoint_at<'a>(t: Target, s: Scan, mem: &'a [u8], regs: &'a [u8], addr
     memory::slot_of(&sites, at as usize)
 }
 
-// Removes the breakpoint at an index: its plain bytes go back, its entry is free.
-pub fn remove(t: Target, mem: &mut [u8], k: usize) -> Target
+// Puts the plain bytes of the breakpoint at an index back.
+pub fn put_back(t: Target, mem: &mut [u8], k: usize)
     requires { ⌜ Removable t k ⌝ }
-    ensures { λ r. ⌜ ((regs : List ℕ) → world r (now (mem .exit)) regs ≡ removed (world t (now (mem .entry)) regs) k) ⌝ }
+    ensures { λ _. ⌜ ((regs : List ℕ) → world (without t k) (now (mem .exit)) regs ≡ removed (world t (now (mem .entry)) regs) k) ⌝ }
 {
-    let mut table = t.table;
+    let table = t.table;
     let e = table.entries[k];
     let at = (e.site - t.base) as usize;
     memory::lay(mem, at, e.plain[0], e.plain[1]);
-    let free = Entry::free();
-    table.entries[k] = free;
-    let mut u = t;
-    u.table = table;
-    u
 }
 
-// The record with another condition in hand, and Rcondbreak.
-fn with_draft(t: Target, d: Draft) -> Served
-    ensures { λ r. ⌜ ((mem regs : List ℕ) → served r mem regs ≡ replied message.Rcondbreak (world (withDraft t d) mem regs)) ⌝ }
+// A change of the record, and Rcondbreak.
+fn done(change: Change) -> Served
+    ensures { λ r. ⌜ ((t : Target) (mem regs : List ℕ) → served t r mem regs ≡ replied message.Rcondbreak (world (applied t change (replicate 16 0)) mem regs)) ⌝ }
 {
-    let mut table = t.table;
-    table.draft = d;
-    let mut u = t;
-    u.table = table;
-    Served {
-        target: u,
-        bytes: wire::bytes_of(Message::Rcondbreak),
-    }
+    Served::with(change, wire::bytes_of(Message::Rcondbreak))
 }
 
 // Rerr, with the condition in hand dropped.
-pub fn fail(t: Target, reason: Reason) -> Served
-    ensures { λ r. ⌜ ((mem regs : List ℕ) → served r mem regs ≡ failed reason (world t mem regs)) ⌝ }
+pub fn fail(reason: Reason) -> Served
+    ensures { λ r. ⌜ ((t : Target) (mem regs : List ℕ) → served t r mem regs ≡ failed reason (world t mem regs)) ⌝ }
 {
-    let mut table = t.table;
-    let none = Draft::closed();
-    table.draft = none;
-    let mut u = t;
-    u.table = table;
-    Served {
-        target: u,
-        bytes: wire::bytes_of(Message::Rerr { reason }),
-    }
+    Served::with(Change::Drop, wire::bytes_of(Message::Rerr { reason }))
 }
 
 // `n`: begins a condition.
 fn begin<'a>(t: Target, s: Scan, mem: &'a [u8], regs: &'a [u8], val: u32) -> Served
     requires { ⌜ Ready t s (now mem) (now regs) ⌝ }
-    ensures { λ r. ⌜ served r (now (mem .entry)) (now (regs .entry)) ≡ beginCondition (world t (now (mem .entry)) (now (regs .entry))) val ⌝ }
+    ensures { λ r. ⌜ served t r (now (mem .entry)) (now (regs .entry)) ≡ beginCondition (world t (now (mem .entry)) (now (regs .entry))) val ⌝ }
 {
     if 255 < val {
-        return fail(t, Reason::Inval);
+        return fail(Reason::Inval);
     }
     let ids = s.ids;
     if fit::entry_of(&ids, val) < 8 {
-        return fail(t, Reason::Inval);
+        return fail(Reason::Inval);
     }
     let table = t.table;
     if table.first_free() == 8 {
-        return fail(t, Reason::Count);
+        return fail(Reason::Count);
     }
-    let none = Draft::closed();
-    let mut d = none;
-    d.active = 1;
-    d.id = val as u8;
-    with_draft(t, d)
+    let id = val as u8;
+    done(Change::Begin(id))
 }
 
 // An element joins the condition in hand.
 fn add(t: Target, letter: u8, value: u32) -> Served
-    ensures { λ r. ⌜ ((mem regs : List ℕ) → served r mem regs ≡ addElement (world t mem regs) (record { letter = letter; value = value })) ⌝ }
+    ensures { λ r. ⌜ ((mem regs : List ℕ) → served t r mem regs ≡ addElement (world t mem regs) (record { letter = letter; value = value })) ⌝ }
 {
     let table = t.table;
     let d = table.draft;
     if d.active == 0 {
-        return fail(t, Reason::Inval);
+        return fail(Reason::Inval);
     }
     let added = condition::add(d, Element { letter, value });
     let room = added.room;
-    let more = added.draft;
     match room {
-        Room::Fits => with_draft(t, more),
-        Room::Full => fail(t, Reason::Count),
-        Room::Short => fail(t, Reason::Inval),
+        Room::Fits => done(Change::Add(letter, value)),
+        Room::Full => fail(Reason::Count),
+        Room::Short => fail(Reason::Inval),
     }
 }
 
 // Makes a breakpoint of the condition in hand, at a site of the window.
 fn plant<'a>(t: Target, s: Scan, mem: &'a mut [u8], site: u32) -> Served
     requires { ⌜ Plantable t s (now mem) site ⌝ }
-    ensures { λ r. ⌜ ((regs : List ℕ) → served r (now (mem .exit)) regs ≡ replied message.Rcondbreak (planted (world t (now (mem .entry)) regs) site)) ⌝ }
+    ensures { λ r. ⌜ ((regs : List ℕ) → served t r (now (mem .exit)) regs ≡ replied message.Rcondbreak (planted (world t (now (mem .entry)) regs) site)) ⌝ }
 {
     let sites = s.sites;
     let plain = s.plain;
     let at = (site - t.base) as usize;
     let b0 = memory::plain_at(mem, &sites, &plain, at);
     let b1 = memory::plain_at(mem, &sites, &plain, at + 1);
-    let mut table = t.table;
-    let d = table.draft;
-    let elements = d.elements;
-    let k = table.first_free();
-    let e = Entry {
-        used: 1,
-        id: d.id,
-        plain: [b0, b1],
-        site: site,
-        count: d.count,
-        elements: elements,
-    };
-    table.entries[k] = e;
-    let none = Draft::closed();
-    table.draft = none;
     memory::lay(mem, at, 0x02, 0x90);
-    let mut u = t;
-    u.table = table;
-    Served {
-        target: u,
-        bytes: wire::bytes_of(Message::Rcondbreak),
-    }
+    done(Change::Plant(site, b0, b1))
 }
 
 // A site is even, both its bytes are in the window, and no breakpoint is there.
@@ -178,19 +135,19 @@ fn site_free<'a>(t: Target, s: Scan, mem: &'a [u8], regs: &'a [u8], val: u32) ->
 // `b`: sets the condition in hand as a breakpoint.
 fn set<'a>(t: Target, s: Scan, mem: &'a mut [u8], regs: &'a [u8], val: u32) -> Served
     requires { ⌜ Ready t s (now mem) (now regs) ⌝ }
-    ensures { λ r. ⌜ served r (now (mem .exit)) (now (regs .entry)) ≡ setBreakpoint (world t (now (mem .entry)) (now (regs .entry))) val ⌝ }
+    ensures { λ r. ⌜ served t r (now (mem .exit)) (now (regs .entry)) ≡ setBreakpoint (world t (now (mem .entry)) (now (regs .entry))) val ⌝ }
 {
     let table = t.table;
     let d = table.draft;
     if d.active == 0 {
-        return fail(t, Reason::Inval);
+        return fail(Reason::Inval);
     }
     if !site_free(t, s, mem, regs, val) {
-        return fail(t, Reason::Inval);
+        return fail(Reason::Inval);
     }
     let elements = d.elements;
     if condition::depth_of(elements, d.count) != 1 {
-        return fail(t, Reason::Inval);
+        return fail(Reason::Inval);
     }
     plant(t, s, mem, val)
 }
@@ -198,30 +155,21 @@ fn set<'a>(t: Target, s: Scan, mem: &'a mut [u8], regs: &'a [u8], val: u32) -> S
 // `d`: removes the breakpoint with an id. The condition in hand stays.
 fn delete<'a>(t: Target, s: Scan, mem: &'a mut [u8], regs: &'a [u8], val: u32) -> Served
     requires { ⌜ Ready t s (now mem) (now regs) ⌝ }
-    ensures { λ r. ⌜ served r (now (mem .exit)) (now (regs .entry)) ≡ deleteBreakpoint (world t (now (mem .entry)) (now (regs .entry))) val ⌝ }
+    ensures { λ r. ⌜ served t r (now (mem .exit)) (now (regs .entry)) ≡ deleteBreakpoint (world t (now (mem .entry)) (now (regs .entry))) val ⌝ }
 {
     let unknown = wire::bytes_of(Message::Rerr {
         reason: Reason::Inval,
     });
     if 255 < val {
-        return Served {
-            target: t,
-            bytes: unknown,
-        };
+        return Served::with(Change::Same, unknown);
     }
     let ids = s.ids;
     let k = fit::entry_of(&ids, val);
     if k < 8 {
-        let after = remove(t, mem, k);
-        return Served {
-            target: after,
-            bytes: wire::bytes_of(Message::Rcondbreak),
-        };
+        put_back(t, mem, k);
+        return done(Change::Remove(k));
     }
-    Served {
-        target: t,
-        bytes: unknown,
-    }
+    Served::with(Change::Same, unknown)
 }
 
 // Tcondbreak, by its letter.
@@ -234,7 +182,7 @@ pub fn condbreak<'a>(
     op: u8,
 ) -> Served
     requires { ⌜ Ready t s (now mem) (now regs) ⌝ }
-    ensures { λ r. ⌜ served r (now (mem .exit)) (now (regs .entry)) ≡ condbreakOf (world t (now (mem .entry)) (now (regs .entry))) val op ⌝ }
+    ensures { λ r. ⌜ served t r (now (mem .exit)) (now (regs .entry)) ≡ condbreakOf (world t (now (mem .entry)) (now (regs .entry))) val op ⌝ }
 {
     match op {
         b'n' => begin(t, s, mem, regs, val),

@@ -1,44 +1,38 @@
 -- Laws of the requests on a process: whether it is listed, its state, its saved pc and the breakpoint there. Assumes nothing.
-use mathlib.Core.Path.{_≡_}
+use mathlib.Core.Path.{_≡_, ap}
 use mathlib.Core.Bool.{true, cond}
 use mathlib.Core.List.{List, [], _∷_}
 use Prim.Native.Nat.{ℕ, _+_, _*_, _<_, _≤_}
 use native.Mathlib.Omega.{arith}
 use borrow.Author.Tests.{lt-ltb, le-ltb, eq-eqb, ne-eqb}
-use lib.ListN.{length, getD, set}
-use lib.Seq.{set-set, getD-set-same, getD-take, getD-drop}
+use lib.ListN.{length, getD, replicate}
+use lib.Seq.{getD-take, getD-drop}
 use Rattle.common.specs.Bytes.{ofHighFirst}
 use Rattle.fit.specs.Fit.{stopped, processAt, entryAt, fitOf}
 use Rattle.rules.specs.Breakpoint.{breakpointAt, removed, removedAt}
+use Rattle.rules.specs.Change.{without, applied}
 use Rattle.rules.specs.Facts.{Facts}
 use Rattle.rules.specs.FitFacts.{tests-of, facts-by}
 use Rattle.rules.specs.Found.{at-used}
-use Rattle.rules.specs.Outcome.{World, Outcome, outcome, replied, error}
-use Rattle.rules.specs.Record.{ready, withProcesses, withState, setState, indexOf, isStopped, blockAt, pcOf}
+use Rattle.rules.specs.Outcome.{World, world, Outcome, replied, error}
+use Rattle.rules.specs.Ready.{served}
+use Rattle.rules.specs.Record.{ready, withProcesses, setState, indexOf, isStopped, blockAt, pcOf}
 use Rattle.rules.specs.Request.{onProcess, withTarget, start}
-use Rattle.rules.specs.declared.Answer.the-variants.{Nothing}
-use Rattle.target.specs.Fresh.{noProcess}
+use Rattle.rules.specs.declared.Change.{Change}
+use Rattle.rules.specs.declared.Served.{Served}
 use Rattle.target.specs.declared.Process.{Process}
 use Rattle.target.specs.declared.Target.{Target}
 use Rattle.wire.specs.Message.{bytesOf}
 use Rattle.wire.specs.declared.Message.{Message}
 use Rattle.wire.specs.declared.Message.the-variants.{Rstart}
-use Rattle.wire.specs.declared.Reason.the-variants.{Pid}
+use Rattle.text.specs.declared.Reason.the-variants.{Pid}
 
--- an outcome whose bytes are a message's is its reply
-pub replies : (m : Message) (w : World) (b : List ℕ) → b ≡ bytesOf m → outcome 0 Nothing w b ≡ replied m w
+-- a change with the bytes of a message: the reply, over the record with the change made
+pub replies : {change : Change} {b : List ℕ} {r : Served} (t : Target) (m : Message) (mem regs : List ℕ)
+    → r ≡ record { change = change; plain = replicate 16 0; bytes = b } → b ≡ bytesOf m
+    → served t r mem regs ≡ replied m (world (applied t change (replicate 16 0)) mem regs)
 unfolding replied
-replies m w b e = rw e
-
--- ---- the state set, then the mark
-
-pub set-both : (t : Target) (i state wanted : ℕ) → i < length (t .processes)
-    → (let p = processAt (t .processes) i in
-    let ps = set (t .processes) i (withState p state (p .wanted)) in
-    withProcesses t (set ps i (withState (processAt ps i) (processAt ps i .state) wanted)))
-    ≡ setState t i state wanted
-unfolding setState withState
-set-both t i state wanted h = rw (getD-set-same (t .processes) i _ noProcess h, set-set)
+replies t m mem regs e f = rw (e, f)
 
 -- ---- a request on a process, by whether its pid is listed
 
@@ -107,17 +101,19 @@ module _ (w : World) (address k : ℕ) (z : length (w .target .table .entries) �
 -- Tstart of a Stopped process, by what is found at its saved pc
 module _ (w : World) (pid i : ℕ) (e : i ≡ indexOf (w .target) pid) (l : i < w .target .count)
     (s : processAt (w .target .processes) i .state ≡ stopped) (z : length (w .target .table .entries) ≡ 8)
-    (u : Target) (r : u ≡ setState (w .target) i ready 0)
     (pc k : ℕ) (p : pc ≡ pcOf (blockAt (w .regs) i)) (f : k ≡ breakpointAt (w .target .table .entries) pc) where
   -- no breakpoint: only the state is set
-  pub start-none : 8 ≤ k → replied Rstart (withTarget w u) ≡ start w pid
+  pub start-none : 8 ≤ k → replied Rstart (withTarget w (setState (w .target) i ready 0)) ≡ start w pid
   unfolding start setState withProcesses
-  start-none h = rw (r, none-at (withTarget w (setState (w .target) i ready 0)) pc k z f h, p) (when-stopped _ _ _ e l _ _ _ s)
+  start-none h = rw (none-at (withTarget w (setState (w .target) i ready 0)) pc k z f h, p) (when-stopped _ _ _ e l _ _ _ s)
 
-  -- a breakpoint: it is removed
-  pub start-one : k < 8 → (v : World) → v ≡ removed (withTarget w u) k → replied Rstart v ≡ start w pid
-  unfolding start setState withProcesses
-  start-one h v d = rw (d, r, one-at (withTarget w (setState (w .target) i ready 0)) pc k z f h, p) (when-stopped _ _ _ e l _ _ _ s)
+  -- a breakpoint: it is removed; a state set changes neither its entry nor the base, so memory is as without it
+  pub start-one : k < 8 → (mem : List ℕ) → world (without (w .target) k) mem (w .regs) ≡ removed w k
+      → replied Rstart (world (without (setState (w .target) i ready 0) k) mem (w .regs)) ≡ start w pid
+  unfolding start removed setState withProcesses
+  start-one h mem d =
+      rw (ap (λ (v : World). v .mem) d, one-at (withTarget w (setState (w .target) i ready 0)) pc k z f h, p)
+      (when-stopped _ _ _ e l _ _ _ s)
 
 -- the site of a breakpoint that is found is not below the window
 pub site-low : (t : Target) (mem : List ℕ) (address k : ℕ) → fitOf t mem ≡ true → length (t .table .entries) ≡ 8

@@ -3,14 +3,13 @@ use mathlib.Core.Path.{_≡_, refl, sym, ap, _∙_}
 use mathlib.Core.Bool.{Bool, true, false, cond}
 use mathlib.Core.List.{List, [], _∷_}
 use Prim.Native.Nat.{ℕ, suc, _+_, _-_, _*_, _/_, _%_, _<_, _≤_}
-use native.Mathlib.Nat.{suc-mul, mod-lt, mod-le, mod-eq-of-lt, div-eq-of-lt, div-lt-iff-lt-mul}
-use native.Mathlib.Nat.{mul-add-div-right, mul-add-mod-self-right, div-add-mod'}
+use native.Mathlib.Nat.{suc-mul, mod-lt, div-lt-iff-lt-mul, div-add-mod'}
 use native.Mathlib.Numerals.{add-one}
 use native.Mathlib.Omega.{arith}
-use borrow.Author.Tests.{eq-eqb, ne-eqb, eqb-true, eqb-false, lt-ltb, le-ltb, ltb-true, ltb-false, le-leb, lt-leb}
+use borrow.Author.Tests.{eq-eqb, ne-eqb, eqb-true, lt-ltb, le-ltb, le-leb, lt-leb}
 use lib.Dec.{eqb, ltb, leb·suc-suc}
-use lib.ListN.{length, getD, set, take, drop, length-set, drop-of-length-le}
-use lib.Seq.{getD-set-same, getD-set-other, getD-take, getD-drop, drop-cons, drop-drop, length-take-le}
+use lib.ListN.{length, getD, set, take, drop, drop-of-length-le}
+use lib.Seq.{getD-take, getD-drop, drop-cons, drop-drop, length-take-le}
 use Rattle.common.specs.First.{firstOf}
 use Rattle.common.specs.Tab.{tab}
 use Rattle.common.proofs.Cases.{on-less, on-same}

@@ -1,3 +1,4 @@
 pub mod Site
 pub mod Slots
 pub mod Laws
+pub mod Parts

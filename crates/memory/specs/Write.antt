@@ -1,5 +1,5 @@
 -- 01, Tmget and Tmput in the window: reads answer plain bytes; "a byte under a trap goes to the entry's plain bytes and the trap stays".
-use Prim.Native.Nat.{ℕ, _+_, _-_, _/_, _%_}
+use Prim.Native.Nat.{ℕ, _+_, _-_, _*_, _/_, _%_}
 use mathlib.Core.Bool.{cond, _&&_}
 use mathlib.Core.List.{List}
 use lib.Dec.{leb, ltb, eqb}
@@ -14,6 +14,15 @@ bytesAt l at n m = tab m (λ j. cond (ltb j n) (getD l (at + j) 0) 0)
 -- the same of the plain bytes, one by one
 unfoldable pub readOf : ℕ → List ℕ → List ℕ → List ℕ → ℕ → ℕ → ℕ → List ℕ
 readOf w sites plain mem at n m = tab m (λ j. cond (ltb j n) (plainAt w sites plain mem (at + j)) 0)
+
+-- the same where just the part of the window from offset at on is given: all of the part
+unfoldable pub partRead : ℕ → List ℕ → List ℕ → List ℕ → ℕ → ℕ → List ℕ
+partRead w sites plain part at m =
+    tab m
+    (λ j.
+    cond (ltb j (length part))
+    (cond (covered w sites (at + j)) (getD plain (slotOf w sites (at + j) * w + (at + j) % w) 0) (getD part j 0))
+    0)
 
 -- what offset i holds once bytes are written from offset at on, where it held old
 unfoldable pub writtenAt : ℕ → List ℕ → ℕ → ℕ → ℕ

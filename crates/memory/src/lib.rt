@@ -3,11 +3,11 @@
 // Everything goes by offset into the window. A table of breakpoints is given by two small arrays: the slots' sites, where a free
 // slot has the odd site 1, and the slots' plain bytes, two for each slot.
 ghost use mathlib.Core.Path.{_≡_};
-ghost use mathlib.Core.List.{_∷_, []};
-ghost use Prim.Native.Nat.{_+_, _≤_};
+ghost use mathlib.Core.List.{List, _∷_, []};
+ghost use Prim.Native.Nat.{ℕ, _+_, _≤_, min};
 ghost use lib.ListN.{length};
 ghost use Rattle.memory.specs.Overlay.{slotOf, plainAt, plainOf, laidOver};
-ghost use Rattle.memory.specs.Write.{memAfter, plainAfter};
+ghost use Rattle.memory.specs.Write.{partRead, memAfter, plainAfter};
 ghost use Rattle.memory.specs.Place.{placeOf, stretchOf};
 
 // Where the bytes that a request names lie.
@@ -50,6 +50,49 @@ pub fn plain_at(mem: &[u8], sites: &[u32; 8], plain: &[u8; 16], at: usize) -> u8
         return mem[at];
     }
     0
+}
+
+// The lesser of two numbers.
+fn least(a: usize, b: usize) -> usize
+    ensures { λ r. ⌜ r ≡ min a b ⌝ }
+{
+    if a < b {
+        return a;
+    }
+    b
+}
+
+// An offset that reads as the given one, and to which a few can be added. A site is a u32, so past them all one offset reads as any
+// other; the sites are lent for the contract alone.
+fn near(sites: &[u32], at: usize) -> usize
+    ensures { λ r. ⌜ (r ≤ 4294967297) × ((plain part : List ℕ) → partRead 2 (now (sites .entry)) plain part r 9 ≡ partRead 2 (now (sites .entry)) plain part at 9) ⌝ }
+{
+    least(at, 4294967297)
+}
+
+// The bytes of a part of the window that lies at an offset, those under traps plain, then zeros.
+pub fn read(part: &[u8], sites: &[u32; 8], plain: &[u8; 16], at: usize) -> [u8; 9]
+    ensures { λ r. ⌜ r ≡ partRead 2 (now (sites .entry)) (now (plain .entry)) (now (part .entry)) at 9 ⌝ }
+{
+    let all = &sites[..];
+    let kept = &plain[..];
+    let from = near(all, at);
+    let mut out: [u8; 9] = [0; 9];
+    let mut j: usize = 0;
+    while j < 9 {
+        if j == part.len() {
+            return out;
+        }
+        let i = from + j;
+        let slot = slot_of(sites, i);
+        if slot < all.len() {
+            out[j] = kept[2 * slot + i % 2];
+        } else {
+            out[j] = part[j];
+        }
+        j += 1;
+    }
+    out
 }
 
 // Writes a stretch: each byte to memory or, under a trap, to the slot's plain bytes.

@@ -8,7 +8,7 @@ use Rattle.wire.specs.Kind.{kindOf}
 use Rattle.wire.specs.Codec.{readOf}
 use Rattle.wire.specs.declared.Kind.{Kind}
 use Rattle.wire.specs.declared.Kind.the-variants.{Tmget, Tmput, Tproc, Tstatus, Trnote, Tstop, Tstart, Tcondbreak, Unsupported, Unknown}
-use Rattle.wire.specs.declared.Reason.the-variants.{Count, Unk, Inval, Unsup}
+use Rattle.text.specs.declared.Reason.the-variants.{Count, Unk, Inval, Unsup}
 use Rattle.wire.specs.declared.Reading.{Reading}
 use Rattle.wire.specs.declared.Reading.the-variants.{Accepted, WrongSize, NoMessage}
 use Rattle.request.specs.declared.Parsed.{Parsed}

@@ -1,8 +1,8 @@
 // What ten bytes ask of the stub, or why they are refused, as far as the bytes alone decide it.
+use text::Reason;
 use wire::Kind;
 use wire::Message;
 use wire::Reading;
-use wire::Reason;
 ghost use mathlib.Core.Path.{_≡_};
 ghost use Rattle.wire.specs.Codec.{readOf};
 ghost use Rattle.request.specs.Request.{served, counted, parseOf};

@@ -23,8 +23,8 @@ use Rattle.target.specs.declared.Element.{Element}
 use Rattle.target.specs.declared.Target.{Target}
 use Rattle.wire.specs.Message.{typeOf}
 use Rattle.wire.specs.declared.Message.the-variants.{Rcondbreak}
-use Rattle.wire.specs.declared.Reason.{Reason}
-use Rattle.wire.specs.declared.Reason.the-variants.{Inval, Count}
+use Rattle.text.specs.declared.Reason.{Reason}
+use Rattle.text.specs.declared.Reason.the-variants.{Inval, Count}
 use Rattle.rules.specs.Outcome.{World, world}
 use Rattle.rules.specs.Condition.{dropped, failed, inHand, begun, beginCondition, joined, addElement, siteFree}
 use Rattle.rules.specs.Condition.{setBreakpoint, deleteBreakpoint, condbreak}

@@ -23,7 +23,7 @@ use Rattle.wire.specs.declared.Data4.{Data4}
 use Rattle.wire.specs.declared.Message.{Message}
 use Rattle.wire.specs.declared.Message.the-variants.{Tmget, Tmput, Tproc, Tstatus, Trnote, Tstop, Tstart, Tcondbreak, Rerr, Rmget, Rmput}
 use Rattle.wire.specs.declared.Message.the-variants.{Rproc, Rstatus, Rrnote, Rstop, Rstart, Rcondbreak}
-use Rattle.wire.specs.declared.Reason.the-variants.{Inval, Pid}
+use Rattle.text.specs.declared.Reason.the-variants.{Inval, Pid}
 use Rattle.rules.specs.Outcome.{World, world, refused}
 use Rattle.rules.specs.Record.{ready, indexOf, withTable, withEntries, withProcesses, setState, isStopped, blockAt, pcOf}
 use Rattle.rules.specs.Breakpoint.{breakpointAt, removed, removedAt}

@@ -10,6 +10,7 @@ use Rattle.fit.specs.Arrays.{sitesOf, plainsOf}
 use Rattle.fit.specs.Fit.{entryAt}
 use Rattle.target.specs.Free.{isFree, firstFree}
 use Rattle.target.specs.Fresh.{freshEntry, closedDraft}
+use Rattle.target.specs.declared.Draft.{Draft}
 use Rattle.target.specs.declared.Entry.{Entry}
 use Rattle.target.specs.declared.Target.{Target}
 use Rattle.rules.specs.Outcome.{World, world}
@@ -42,17 +43,14 @@ breakpointAt es address = firstOf (isAt address) es
 -- ---- making one
 
 -- "An entry holds an id, a site, the two plain bytes of the site, and 0 to 16 condition elements"
+abbrev pub entryWith : Draft → ℕ → List ℕ → Entry
+entryWith d site plain = record { used = 1; id = d .id; plain = plain; site = site; count = d .count; elements = d .elements }
+
+-- the entry of a new breakpoint, with the plain bytes of the moment
 unfoldable pub madeEntry : World → ℕ → Entry
 madeEntry w site =
-    let d = w .target .table .draft in
-    record {
-      used = 1;
-      id = d .id;
-      site = site;
-      count = d .count;
-      elements = d .elements;
-      plain = plainByte w (site - w .target .base) ∷ plainByte w (site - w .target .base + 1) ∷ [];
-    }
+    entryWith (w .target .table .draft) site
+    (plainByte w (site - w .target .base) ∷ plainByte w (site - w .target .base + 1) ∷ [])
 
 -- "the trap is planted and nothing is in hand": "A new one takes the free entry of the lowest index"
 unfoldable pub planted : World → ℕ → World

@@ -15,8 +15,8 @@ use Rattle.target.specs.Fresh.{closedDraft, noElement}
 use Rattle.target.specs.declared.Draft.{Draft}
 use Rattle.target.specs.declared.Element.{Element}
 use Rattle.wire.specs.declared.Message.the-variants.{Rcondbreak}
-use Rattle.wire.specs.declared.Reason.{Reason}
-use Rattle.wire.specs.declared.Reason.the-variants.{Count, Inval}
+use Rattle.text.specs.declared.Reason.{Reason}
+use Rattle.text.specs.declared.Reason.the-variants.{Count, Inval}
 use Rattle.rules.specs.Outcome.{World, world, Outcome, replied, error}
 use Rattle.rules.specs.Record.{withDraft}
 use Rattle.rules.specs.Breakpoint.{breakpointAt, planted, removed}

@@ -10,7 +10,7 @@ use Rattle.target.specs.Fresh.{freshTable}
 use Rattle.target.specs.declared.Entry.{Entry}
 use Rattle.target.specs.declared.Process.{Process}
 use Rattle.wire.specs.declared.Message.the-variants.{Rerr}
-use Rattle.wire.specs.declared.Reason.the-variants.{Reset}
+use Rattle.text.specs.declared.Reason.the-variants.{Reset}
 use Rattle.rules.specs.declared.Answer.the-variants.{Nothing, Stop, Pass, Yes, No}
 use Rattle.rules.specs.Outcome.{World, world, Outcome, answered, refused, replied}
 use Rattle.rules.specs.Record.{ready, indexOf, withState, setState, isStopped, pcOf, stopWith}

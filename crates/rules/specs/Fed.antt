@@ -9,8 +9,8 @@ use Rattle.fit.specs.Fit.{processAt, fitOf}
 use Rattle.target.specs.declared.Process.{Process}
 use Rattle.wire.specs.Message.{typeOf, bytesOf}
 use Rattle.wire.specs.declared.Message.{Message}
-use Rattle.wire.specs.declared.Reason.{Reason}
-use Rattle.wire.specs.declared.Reason.the-variants.{Pid, Notstop}
+use Rattle.text.specs.declared.Reason.{Reason}
+use Rattle.text.specs.declared.Reason.the-variants.{Pid, Notstop}
 use Rattle.rules.specs.Outcome.{World, Outcome, replied, error, refused}
 use Rattle.rules.specs.Record.{indexOf, isStopped}
 use Rattle.rules.specs.Request.{onBlock, onProcess}

@@ -13,7 +13,7 @@ use Rattle.target.specs.Free.{isFree}
 use Rattle.target.specs.declared.Target.{Target}
 use Rattle.wire.specs.Message.{bytesOf}
 use Rattle.wire.specs.declared.Message.the-variants.{Rerr}
-use Rattle.wire.specs.declared.Reason.{Reason}
+use Rattle.text.specs.declared.Reason.{Reason}
 use Rattle.rules.specs.declared.Answer.the-variants.{Nothing, Pass, No}
 use Rattle.rules.specs.Outcome.{World, world, Outcome, outcome, answered, error}
 use Rattle.rules.specs.Condition.{dropped}

@@ -31,7 +31,7 @@ use Rattle.wire.specs.declared.Data4.{Data4}
 use Rattle.wire.specs.declared.Message.{Message}
 use Rattle.wire.specs.declared.Message.the-variants.{Tmget, Tmput, Tproc, Tstatus, Trnote, Tstop, Tstart, Tcondbreak, Rerr, Rmget, Rmput}
 use Rattle.wire.specs.declared.Message.the-variants.{Rproc, Rstatus, Rrnote, Rstop, Rstart, Rcondbreak}
-use Rattle.wire.specs.declared.Reason.{Reason}
+use Rattle.text.specs.declared.Reason.{Reason}
 use Rattle.rules.specs.declared.Answer.{Answer}
 use Rattle.rules.specs.Outcome.{World, world, Outcome, refused, answered, replied, error}
 use Rattle.rules.specs.Record.{ready, indexOf, isStopped, pcOf}

@@ -5,6 +5,7 @@ pub mod Condition
 pub mod Request
 pub mod Event
 pub mod Step
+pub mod Change
 pub mod Ready
 pub mod Worked
 pub mod Replies

@@ -1,13 +1,13 @@
 -- 01, "Steps and numbers": what comes out of a step.
 use Prim.Native.Nat.{ℕ}
-use mathlib.Core.List.{List, []}
+use mathlib.Core.List.{List, [], _∷_}
 use Rattle.wire.specs.declared.Message.{Message}
 use Rattle.wire.specs.declared.Message.the-variants.{Rerr}
-use Rattle.wire.specs.declared.Reason.{Reason}
+use Rattle.text.specs.declared.Reason.{Reason}
 use Rattle.wire.specs.Message.{bytesOf}
 use Rattle.target.specs.declared.Target.{Target}
 use Rattle.rules.specs.declared.Answer.{Answer}
-use Rattle.rules.specs.declared.Answer.the-variants.{Nothing}
+use Rattle.rules.specs.declared.Answer.the-variants.{Nothing, Stop, Pass, Yes, No}
 
 -- the record, memory and the register area
 pub record World : Type 0 where
@@ -43,3 +43,11 @@ replied m w = outcome 0 Nothing w (bytesOf m)
 -- number 0, with Rerr
 unfoldable pub error : Reason → World → Outcome
 error r w = replied (Rerr r) w
+
+-- an answer's number and values, as 01 has the program write them: "01 id or 02 and two bytes for 2; 00 or 01 for 3"
+unfoldable pub answerBytes : Answer → List ℕ
+answerBytes Nothing = []
+answerBytes (Stop id) = 1 ∷ id ∷ []
+answerBytes (Pass x y) = 2 ∷ x ∷ y ∷ []
+answerBytes Yes = 1 ∷ []
+answerBytes No = 0 ∷ []

@@ -50,17 +50,8 @@ use Rattle.rules.specs.Found.{at-used, at-site}
 use Rattle.rules.specs.KeptWorld.{choose}
 use Rattle.rules.specs.Agree.{dressed, Agree}
 use Rattle.rules.specs.Laid.{same-place}
+use Rattle.memory.proofs.Parts.{within-window}
 use Rattle.rules.specs.Fed.{on-checked, on-listed}
-
--- n bytes that lie in the window end where it ends
-window-end : (base size a n : ℕ) → placeOf base size a n ≡ Window → (base ≤ a) × (a + n ≤ base + size)
-unfolding placeOf
-window-end base size a n e =
-    on-test (leb (a + n) 136)
-    (λ f. let z : Registers ≡ Window = rw f at e in let n : _≡_ {A = ℕ} 0 1 = cc in absurd (omega arith))
-    (λ f. on-test (leb base a && leb (a + n) (base + size))
-    (λ g. let p = and-both _ _ g in (leb-true _ _ (p .0), leb-true _ _ (p .1)))
-    (λ g. let z : Nowhere ≡ Window = rw (f, g) at e in let n : _≡_ {A = ℕ} 0 1 = cc in absurd (omega arith)))
 
 into-window : (p : Place) → intoWindow p ≡ true → p ≡ Window
 unfolding intoWindow
@@ -91,7 +82,7 @@ module _ (s : Setup) (b : Book) (t : Target) (mem : List ℕ) (a : Agree s b t m
         let p = and-both _ _ e in
         let some : 0 < n = ltb-true 0 n (p .0) in
         let place : placeOf (t .base) (t .size) addr n ≡ Window = sym (same-place s b t mem a addr n) ∙ into-window _ (p .1) in
-        let end = window-end (t .base) (t .size) addr n place in
+        let end = within-window (t .base) (t .size) addr n place in
         rw (
           ne-eqb n 0 (omega arith),
           place,

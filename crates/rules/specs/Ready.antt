@@ -10,6 +10,7 @@ use Rattle.fit.specs.declared.Scan.{Scan}
 use Rattle.target.specs.declared.Target.{Target}
 use Rattle.rules.specs.declared.Answer.the-variants.{Nothing}
 use Rattle.rules.specs.declared.Served.{Served}
+use Rattle.rules.specs.Change.{applied}
 use Rattle.rules.specs.Outcome.{world, Outcome, outcome}
 
 pub record Ready (t : Target) (s : Scan) (mem regs : List ℕ) : Type 0 where
@@ -20,6 +21,6 @@ pub record Ready (t : Target) (s : Scan) (mem regs : List ℕ) : Type 0 where
   pub memory : length mem ≡ t .size
   pub registers : length regs ≡ 136 * t .count
 
--- an accepted request with what it leaves
-abbrev pub served : Served → List ℕ → List ℕ → Outcome
-served r mem regs = outcome 0 Nothing (world (r .target) mem regs) (r .bytes)
+-- an accepted request over a record, with what it leaves
+abbrev pub served : Target → Served → List ℕ → List ℕ → Outcome
+served t r mem regs = outcome 0 Nothing (world (applied t (r .change) (r .plain)) mem regs) (r .bytes)

@@ -35,8 +35,8 @@ use Rattle.wire.specs.declared.Reading.the-variants.{Accepted, WrongSize, NoMes
 use Rattle.wire.specs.declared.Message.{Message}
 use Rattle.wire.specs.declared.Message.the-variants.{Tmget, Tmput, Tproc, Tstatus, Trnote, Tstop, Tstart, Tcondbreak}
 use Rattle.wire.specs.declared.Message.the-variants.{Rerr, Rmget, Rmput, Rproc, Rstatus, Rrnote, Rstop, Rstart, Rcondbreak}
-use Rattle.wire.specs.declared.Reason.{Reason}
-use Rattle.wire.specs.declared.Reason.the-variants.{Reset, Count, Unk, Inval, Pid, Unsup, Notstop}
+use Rattle.text.specs.declared.Reason.{Reason}
+use Rattle.text.specs.declared.Reason.the-variants.{Reset, Count, Unk, Inval, Pid, Unsup, Notstop}
 use Rattle.wire_laws.specs.Messages.{ten-bytes, reads-only}
 use Rattle.rules.specs.declared.Answer.{Answer}
 use Rattle.rules.specs.Outcome.{World, Outcome, replied, error, refused, answered}

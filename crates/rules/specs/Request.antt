@@ -21,8 +21,8 @@ use Rattle.wire.specs.declared.Data4.{Data4}
 use Rattle.wire.specs.declared.Data9.{Data9}
 use Rattle.wire.specs.declared.Message.{Message}
 use Rattle.wire.specs.declared.Message.the-variants.{Tmget, Tmput, Tproc, Tstatus, Trnote, Tstop, Tstart, Tcondbreak, Rerr, Rmget, Rmput, Rproc, Rstatus, Rrnote, Rstop, Rstart, Rcondbreak}
-use Rattle.wire.specs.declared.Reason.{Reason}
-use Rattle.wire.specs.declared.Reason.the-variants.{Inval, Pid, Notstop}
+use Rattle.text.specs.declared.Reason.{Reason}
+use Rattle.text.specs.declared.Reason.the-variants.{Inval, Pid, Notstop}
 use Rattle.rules.specs.Outcome.{World, world, Outcome, replied, error, refused}
 use Rattle.rules.specs.Record.{ready, withEntries, withCurrent, indexOf, setState, isStopped, blockAt, pcOf}
 use Rattle.rules.specs.Breakpoint.{sites, plains, removedAt}

@@ -16,7 +16,7 @@ use Rattle.wire.specs.Codec as codec
 use Rattle.wire.specs.Codec.{exactly, candidateOf, candidateBy, replyOf, errorAt, firstWord, data4, data9}
 use Rattle.wire.specs.Kind.{kinds, kindOf}
 use Rattle.wire.specs.Message.{isMessage, isPut, isOp, bytesOf, typeOf, fieldsOf, bytes4, bytes9}
-use Rattle.wire.specs.Text.{reasonName, hexDigit, hexBytes, stateNames, stateText, addressText}
+use Rattle.text.specs.Text.{reasonName, hexDigit, hexBytes, stateNames, stateText, addressText}
 use Rattle.request.specs.Request.{served, counted, parsedBy, parseOf}
 use Rattle.memory.specs.Overlay.{siteOver, slotOf, covered, plainAt, plainOf, laidAt, laidOver}
 use Rattle.memory.specs.Place.{placeOf}

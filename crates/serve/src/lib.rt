@@ -1,14 +1,16 @@
 // A request of ten bytes over a fit record: served if it is a message, refused by its bytes if not.
 use fit::Scan;
+use rules::Change;
 use rules::Served;
 use target::Target;
+use text::Reason;
 use wire::Message;
-use wire::Reason;
 ghost use mathlib.Core.Path.{_≡_};
 ghost use mathlib.Core.Bool.{true};
 ghost use mathlib.Core.List.{List};
 ghost use Prim.Native.Nat.{ℕ};
 ghost use lib.ListN.{length};
+ghost use Rattle.target.specs.declared.Target.{Target};
 ghost use Rattle.wire.specs.Message.{isMessage};
 ghost use Rattle.rules.specs.Outcome.{world};
 ghost use Rattle.rules.specs.Ready.{Ready, served};
@@ -18,15 +20,11 @@ ghost use Rattle.rules.specs.Request.{drops, refusedBy, serve as serveOf};
 pub fn serve(t: Target, s: Scan, mem: &mut [u8], regs: &mut [u8], m: Message) -> Served
     requires { ⌜ Ready t s (now mem) (now regs) ⌝ }
     requires { ⌜ isMessage m ≡ true ⌝ }
-    ensures { λ r. ⌜ served r (now (mem .exit)) (now (regs .exit)) ≡ serveOf (world t (now (mem .entry)) (now (regs .entry))) m ⌝ }
+    ensures { λ r. ⌜ served t r (now (mem .exit)) (now (regs .exit)) ≡ serveOf (world t (now (mem .entry)) (now (regs .entry))) m ⌝ }
 {
     match m {
         Message::Tmget { addr, n } => {
-            let bytes = access::mget(t, s, mem, regs, addr, n);
-            Served {
-                target: t,
-                bytes: bytes,
-            }
+            Served::with(Change::Same, access::mget(t, s, mem, regs, addr, n))
         }
         Message::Tmput { addr, n, data } => access::mput(t, s, mem, regs, addr, n, data),
         Message::Tproc { pid } => control::proc(t, pid),
@@ -35,12 +33,12 @@ pub fn serve(t: Target, s: Scan, mem: &mut [u8], regs: &mut [u8], m: Message) ->
         Message::Tstop { pid } => control::stop(t, pid),
         Message::Tstart { pid } => control::start(t, s, mem, regs, pid),
         Message::Tcondbreak { val, op } => breaks::condbreak(t, s, mem, regs, val, op),
-        _ => Served {
-            target: t,
-            bytes: wire::bytes_of(Message::Rerr {
+        _ => Served::with(
+            Change::Same,
+            wire::bytes_of(Message::Rerr {
                 reason: Reason::Inval,
             }),
-        },
+        ),
     }
 }
 
@@ -59,15 +57,12 @@ fn drops_draft(s: &[u8]) -> bool
 }
 
 // A request that its ten bytes refuse.
-pub fn refuse(t: Target, s: &[u8], reason: Reason) -> Served
+pub fn refuse(s: &[u8], reason: Reason) -> Served
     requires { ⌜ length (now s) ≡ 10 ⌝ }
-    ensures { λ r. ⌜ ((mem regs : List ℕ) → served r mem regs ≡ refusedBy (world t mem regs) (now (s .entry)) reason) ⌝ }
+    ensures { λ r. ⌜ ((t : Target) (mem regs : List ℕ) → served t r mem regs ≡ refusedBy (world t mem regs) (now (s .entry)) reason) ⌝ }
 {
     if drops_draft(s) {
-        return breaks::fail(t, reason);
+        return breaks::fail(reason);
     }
-    Served {
-        target: t,
-        bytes: wire::bytes_of(Message::Rerr { reason }),
-    }
+    Served::with(Change::Same, wire::bytes_of(Message::Rerr { reason }))
 }

@@ -8,9 +8,7 @@ use native.Mathlib.Numerals.{add-one}
 use native.Mathlib.Omega.{arith}
 use borrow.Author.Tests.{lt-ltb, le-ltb, eq-eqb, ne-eqb, eqb-true, not-true, not-false}
 use lib.Dec.{leb, ltb, eqb}
-use lib.ListN.{length, getD, take, drop, set, length-set, length-map}
-use mir.Val.{Val}
-use denote.Laws.{Is}
+use lib.ListN.{length, getD, take, drop, set, length-set}
 use lib.Seq.{getD-set-same, getD-set-other}
 use Rattle.common.specs.Tab.{tab}
 use Rattle.common.proofs.Cases.{on-less, on-same}
@@ -37,8 +35,6 @@ use Rattle.rules.specs.Record.{ready, withProcesses, indexOf, withState, setSta
 use Rattle.rules.specs.Step.{beginning, setupTarget, setupOf, sized, checked}
 use Rattle.rules.specs.declared.Answer.the-variants.{Nothing, Stop, Pass, Yes, No}
 use Rattle.rules.specs.declared.Done.{Done}
-use Rattle.rules.specs.declared.Served.{Served}
-use Rattle.rules.proofs.Served as served-type
 use Rattle.target.specs.Fresh.{noProcess, freshTable, emptyTarget}
 use Rattle.target.specs.declared.Element.{Element}
 use Rattle.target.specs.declared.Process.{Process}
@@ -52,7 +48,7 @@ use Rattle.wire.specs.declared.Message.{Message}
 use Rattle.wire.specs.declared.Message.the-variants.{Rerr}
 use Rattle.wire.specs.declared.Reading.{Reading}
 use Rattle.wire.specs.declared.Reading.the-variants.{Accepted, WrongSize, NoMessage}
-use Rattle.wire.specs.declared.Reason.the-variants.{Reset, Count}
+use Rattle.text.specs.declared.Reason.the-variants.{Reset, Count}
 use Rattle.wire_laws.specs.Messages.{reads-only}
 
 -- ---- the tests that a step begins with
@@ -154,14 +150,10 @@ module _ (w : World) (s : Scan) (ok : Begun w s) where
 -- ---- a request
 
 -- what an accepted request gives back
-pub accepts : (r : Served) (d : Done) (reply mem regs : List ℕ)
-    → (d ≡ record { number = 0; answer = Nothing; target = r .target }) × (reply ≡ r .bytes)
-    → outcome (d .number) (d .answer) (world (d .target) mem regs) reply ≡ served r mem regs
-accepts r d reply mem regs e = rw (e .0, e .1)
-
--- its reply has ten bytes
-pub ten-bytes : (r : Served) (vs : List Val) → Is served-type.the-row r vs → length (r .bytes) ≡ 10
-ten-bytes r vs h = sym (length-map (r .bytes) (λ (x : ℕ). x)) ∙ (h .1 .1 .1 .0 .1 .0 .1)
+pub accepts : (t : Target) (b : List ℕ) (d : Done) (reply mem regs : List ℕ)
+    → (d ≡ record { number = 0; answer = Nothing; target = t }) × (reply ≡ b)
+    → outcome (d .number) (d .answer) (world (d .target) mem regs) reply ≡ outcome 0 Nothing (world t mem regs) b
+accepts t b d reply mem regs e = rw (e .0, e .1)
 
 -- by what its bytes ask
 pub asked : (w : World) (l reply : List ℕ) (p : Parsed) → p ≡ parseOf l → (o : Outcome) → o ≡ requestBy p w l reply

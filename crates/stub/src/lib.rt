@@ -6,14 +6,15 @@ use rules::Served;
 use target::Process;
 use target::Table;
 use target::Target;
+use text::Reason;
 use wire::Message;
-use wire::Reason;
 ghost use mathlib.Core.Path.{_≡_};
 ghost use mathlib.Core.Bool.{_&&_};
 ghost use mathlib.Core.List.{List, []};
 ghost use Prim.Native.Nat.{ℕ, _+_, _*_, _<_, _≤_};
 ghost use lib.Dec.{eqb};
 ghost use lib.ListN.{length};
+ghost use Rattle.rules.specs.Change.{applied};
 ghost use Rattle.rules.specs.Outcome.{world, outcome};
 ghost use Rattle.rules.specs.Record.{saved, pcOf, stopWith};
 ghost use Rattle.rules.specs.Event.{restart as restartRule};
@@ -104,15 +105,25 @@ pub fn setup(
     refused(0, t)
 }
 
-// An accepted request: its ten bytes are the reply.
-fn accepted(done: Served, reply: &mut [u8]) -> Done
+// An accepted step with a reply of ten bytes.
+fn reply_with(after: Target, bytes: [u8; 10], reply: &mut [u8]) -> Done
     requires { ⌜ length (now reply) ≡ 10 ⌝ }
-    ensures { λ r. ⌜ (r ≡ record { number = 0; answer = answer.Nothing; target = done .target }) × (now (reply .exit) ≡ done .bytes) ⌝ }
+    ensures { λ r. ⌜ (r ≡ record { number = 0; answer = answer.Nothing; target = after }) × (now (reply .exit) ≡ bytes) ⌝ }
 {
-    let bytes = done.bytes;
     common::copy(reply, &bytes);
-    let after = done.target;
     refused(0, after)
+}
+
+// An accepted request: its change of the record is made, and its ten bytes are the reply.
+fn accepted(t: Target, done: Served, reply: &mut [u8]) -> Done
+    requires { ⌜ length (now reply) ≡ 10 ⌝ }
+    ensures { λ r. ⌜ (r ≡ record { number = 0; answer = answer.Nothing; target = applied t (done .change) (done .plain) }) × (now (reply .exit) ≡ done .bytes) ⌝ }
+{
+    let change = done.change;
+    let plain = done.plain;
+    let bytes = done.bytes;
+    let after = change::apply(t, change, plain);
+    reply_with(after, bytes, reply)
 }
 
 // A request of ten bytes, answered in ten.
@@ -136,11 +147,11 @@ pub fn request(t: Target, mem: &mut [u8], regs: &mut [u8], bytes: &[u8], reply: 
     match asked {
         Parsed::Request(m) => {
             let done = serve::serve(t, s, mem, regs, m);
-            accepted(done, reply)
+            accepted(t, done, reply)
         }
         Parsed::Refused(reason) => {
-            let done = serve::refuse(t, bytes, reason);
-            accepted(done, reply)
+            let done = serve::refuse(bytes, reason);
+            accepted(t, done, reply)
         }
         Parsed::NotTen => refused(2, t),
     }
@@ -170,7 +181,7 @@ fn stop_with(t: Target, regs: &mut [u8], i: usize, block: &[u8]) -> Target
     ensures { λ r. ⌜ ((mem : List ℕ) → world r mem (now (regs .exit)) ≡ stopWith (world t mem (now (regs .entry))) i (now (block .entry))) ⌝ }
 {
     save(regs, i, block);
-    control::set_state(t, i, 8, 0)
+    change::set_state(t, i, 8, 0)
 }
 
 // A process ran into a trap, with these registers.
@@ -282,7 +293,7 @@ pub fn state(t: Target, mem: &[u8], regs: &[u8], pid: u32, value: u8) -> Done
     if value == 8 {
         return refused(5, t);
     }
-    let after = control::set_state(t, i, value, p.wanted);
+    let after = change::set_state(t, i, value, p.wanted);
     refused(0, after)
 }
 
@@ -330,11 +341,8 @@ pub fn restart(t: Target, mem: &mut [u8], regs: &[u8], reply: &mut [u8]) -> Done
     let plain = s.plain;
     memory::restore(mem, &sites, &plain);
     let after = restarted(t);
-    let done = Served {
-        target: after,
-        bytes: wire::bytes_of(Message::Rerr {
-            reason: Reason::Reset,
-        }),
-    };
-    accepted(done, reply)
+    let bytes = wire::bytes_of(Message::Rerr {
+        reason: Reason::Reset,
+    });
+    reply_with(after, bytes, reply)
 }

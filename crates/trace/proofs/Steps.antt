@@ -20,7 +20,8 @@ use Rattle.rules.specs.Step.{Step, request, trapEvent, scheduleEvent, stateEven
 use Rattle.rules.specs.declared.Answer.{Answer}
 use Rattle.rules.specs.declared.Answer.the-variants.{Nothing, Stop, Pass, Yes, No}
 use Rattle.target.specs.declared.Target.{Target}
-use Rattle.trace.specs.Trace.{longest, bodyOf, pidOf, encoded, stepOn, answerBytes, shownWith, shown, Writes, Steps}
+use Rattle.rules.specs.Outcome.{answerBytes}
+use Rattle.trace.specs.Trace.{longest, bodyOf, pidOf, encoded, stepOn, shownWith, shown, Writes, Steps}
 use Rattle.trace.specs.declared.Stepped.{Stepped}
 
 -- ---- a request and a restart have no answer

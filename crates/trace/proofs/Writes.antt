@@ -11,36 +11,14 @@ use lib.Seq.{paste, length-take-le, sets, sets-eq, getD-append-add, getD-drop, t
 use Rattle.common.proofs.Cases.{on-less}
 use Rattle.common.proofs.Lists.{copy-whole}
 use Rattle.common.proofs.Tab.{length-tab, tab-is}
-use Rattle.memory.specs.Write.{writtenAt, overwritten}
+use Rattle.memory.specs.Write.{overwritten}
+use Rattle.memory.proofs.Parts.{put-over}
+use Rattle.memory_laws.specs.Bytes.{length-overwritten}
 use Rattle.trace.specs.Trace.{shownWith, Writes}
 
 -- they stand before the rest of it
 pub over-front : (l bytes : List ℕ) → length bytes ≤ length l → overwritten l 0 bytes ≡ bytes ++ drop (length bytes) l
-unfolding overwritten writtenAt
-over-front l bytes h =
-    sym (tab-is (bytes ++ rest) (length l) _ 0 (simp (length-append, length-drop) (omega arith))
-    (λ i g. on-less i (length bytes) (within i) (past i)))
-  where
-    rest : List ℕ
-    rest = drop (length bytes) l
-
-    within : (i : ℕ) → i < length bytes
-        → getD (bytes ++ rest) i 0 ≡ cond (leb 0 i && ltb i (0 + length bytes)) (getD bytes (i - 0) 0) (getD l i 0)
-    within i b =
-        let z : i - 0 ≡ i = omega arith in
-        rw (le-leb 0 i (omega arith), lt-ltb i (0 + length bytes) (omega arith), z) (List·getD-append bytes rest 0 i b)
-
-    past : (i : ℕ) → length bytes ≤ i
-        → getD (bytes ++ rest) i 0 ≡ cond (leb 0 i && ltb i (0 + length bytes)) (getD bytes (i - 0) 0) (getD l i 0)
-    past i b =
-        let m = i - length bytes in
-        let e : length bytes + m ≡ i = omega arith in
-        let q = getD-append-add bytes rest m 0 ∙ getD-drop (length bytes) l m 0 in
-        rw (le-leb 0 i (omega arith), le-ltb i (0 + length bytes) (omega arith)) (rw e at q)
-
-pub length-over : (l : List ℕ) (at : ℕ) (bytes : List ℕ) → length (overwritten l at bytes) ≡ length l
-unfolding overwritten
-length-over l at bytes = length-tab (length l) _
+over-front l bytes h = sym (put-over l 0 bytes (omega arith))
 
 -- stores one after the other
 pub writes-stored : (l bytes stored : List ℕ) → bytes ≡ stored → length stored ≤ length l → Writes bytes (length stored) l (sets l 0 stored)
@@ -85,7 +63,7 @@ writes-none l = record { filled = refl; buffer = sym (over-front l [] (omega ari
 -- more bytes in the part behind those that are written
 module _ (l k : List ℕ) (done : List ℕ) (n : ℕ) (h : Writes done n l k) where
   pub same-length : length k ≡ length l
-  same-length = ap length (h .buffer) ∙ length-over l 0 done
+  same-length = ap length (h .buffer) ∙ length-overwritten l 0 done
 
   module _ (fits : n ≤ length l) where
     front : k ≡ done ++ drop n l

@@ -9,10 +9,9 @@ use Rattle.common.specs.Bytes.{ofHighFirst}
 use Rattle.common.specs.Keys.{arm, byKeys}
 use Rattle.memory.specs.Write.{overwritten}
 use Rattle.rules.specs.Book.{Setup, Book, fed}
-use Rattle.rules.specs.Outcome.{World, world, Outcome}
+use Rattle.rules.specs.Outcome.{World, world, Outcome, answerBytes}
 use Rattle.rules.specs.Step.{Step, request, trapEvent, scheduleEvent, stateEvent, restartStep, stepOf}
 use Rattle.rules.specs.declared.Answer.{Answer}
-use Rattle.rules.specs.declared.Answer.the-variants.{Nothing, Stop, Pass, Yes, No}
 use Rattle.target.specs.declared.Target.{Target}
 use Rattle.trace.specs.declared.End.{End}
 use Rattle.trace.specs.declared.End.the-variants.{UsedUp, Cut, OtherKind, Full}
@@ -44,14 +43,6 @@ encoded kind body regs =
 
 unfoldable pub stepOn : World → ℕ → List ℕ → Outcome
 stepOn w kind body = stepOf (w .target) (w .mem) (encoded kind body (w .regs))
-
--- "01 id or 02 and two bytes for 2; 00 or 01 for 3"
-unfoldable pub answerBytes : Answer → List ℕ
-answerBytes Nothing = []
-answerBytes (Stop id) = 1 ∷ id ∷ []
-answerBytes (Pass x y) = 2 ∷ x ∷ y ∷ []
-answerBytes Yes = 1 ∷ []
-answerBytes No = 0 ∷ []
 
 -- "It writes the number, then ten bytes for 1 and 5 .. A step whose number is not 0 writes its number only"
 unfoldable pub shownWith : ℕ → List ℕ → List ℕ

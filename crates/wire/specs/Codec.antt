@@ -8,9 +8,9 @@ use Rattle.common.specs.Bytes.{ofHighFirst}
 use Rattle.common.specs.Keys.{arm, byKeys}
 use Rattle.common.specs.Same.{sameList}
 use Rattle.wire.specs.Kind.{kindOf}
-use Rattle.wire.specs.Text.{reasons, reasonPlace, stateOf, addressOf}
+use Rattle.text.specs.Text.{reasons, reasonPlace, stateOf, addressOf}
 use Rattle.wire.specs.Message.{isMessage, bytesOf}
-use Rattle.wire.specs.declared.Reason.the-variants.{Reset}
+use Rattle.text.specs.declared.Reason.the-variants.{Reset}
 use Rattle.wire.specs.declared.Data4.{Data4}
 use Rattle.wire.specs.declared.Data9.{Data9}
 use Rattle.wire.specs.declared.Kind.the-variants as kind

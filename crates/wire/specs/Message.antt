@@ -8,7 +8,7 @@ use Rattle.common.specs.Bytes.{highFirst}
 use Rattle.common.specs.Keys.{arm, byKeys}
 use Rattle.common.specs.Same.{allZero}
 use Rattle.common.specs.Text.{codes, padded}
-use Rattle.wire.specs.Text.{reasonName, stateText, addressText}
+use Rattle.text.specs.Text.{reasonName, stateText, addressText}
 use Rattle.wire.specs.declared.Data4.{Data4}
 use Rattle.wire.specs.declared.Data9.{Data9}
 use Rattle.wire.specs.declared.Message.{Message}

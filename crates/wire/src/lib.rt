@@ -1,6 +1,5 @@
 // The ten-byte messages of the service line (source 000; document 01, "Ten bytes").
-mod text;
-
+use text::Reason;
 ghost use mathlib.Core.Path.{_≡_};
 ghost use mathlib.Core.List.{_∷_, [], _++_};
 ghost use lib.ListN.{length, drop};
@@ -8,17 +7,6 @@ ghost use Rattle.common.specs.Bytes.{highFirst};
 ghost use Rattle.wire.specs.Kind.{kindOf};
 ghost use Rattle.wire.specs.Message.{isOp, isPut, isMessage, bytesOf};
 ghost use Rattle.wire.specs.Codec.{written, writeOf, numberOf, errorAt, replyOf, candidateOf, readOf};
-
-// Why a request was refused.
-pub enum Reason {
-    Reset,
-    Count,
-    Unk,
-    Inval,
-    Pid,
-    Unsup,
-    Notstop,
-}
 
 // What the first byte of a request says.
 pub enum Kind {

@@ -14,7 +14,7 @@ use Rattle.common.proofs.Keys.{chosen}
 use Rattle.wire.specs.Codec.{candidateOf, candidateBy, replyOf, errorAt, firstWord, data4, data9}
 use Rattle.wire.specs.Kind.{kinds, kindOf}
 use Rattle.wire.specs.Message.{bytesOf, typeOf, fieldsOf, bytes4, bytes9}
-use Rattle.wire.specs.Text.{reasons, reasonPlace}
+use Rattle.text.specs.Text.{reasons, reasonPlace}
 use Rattle.wire.specs.declared.Kind.{Kind}
 use Rattle.wire.specs.declared.Kind.the-variants as kind
 use Rattle.wire.specs.declared.Message.{Message}
@@ -22,7 +22,7 @@ use Rattle.wire.specs.declared.Message.the-variants.{Tmget, Tmput, Tproc, Tstat
 use Rattle.wire.specs.declared.Message.the-variants.{Rerr, Rmget, Rmput, Rproc, Rstatus, Rrnote, Rstop, Rstart, Rcondbreak}
 use Rattle.wire.specs.declared.Reading.{Reading}
 use Rattle.wire.specs.declared.Reading.the-variants.{Accepted, WrongSize, NoMessage}
-use Rattle.wire.specs.declared.Reason.the-variants.{Reset}
+use Rattle.text.specs.declared.Reason.the-variants.{Reset}
 use Rattle.wire_laws.specs.Fields.{Word, Fits}
 use Rattle.wire_laws.specs.Texts.{reason-back, state-back, state-fits, address-back, address-fits}
 

@@ -16,7 +16,7 @@ use Rattle.common.proofs.Lists.{length-padded, bytes-padded}
 use Rattle.common.proofs.Same.{and-both, same-eq, same-refl}
 use Rattle.wire.specs.Codec.{Written, written, writeOf, numberOf, readOf, exactly, candidateOf}
 use Rattle.wire.specs.Message.{isMessage, bytesOf, typeOf, fieldsOf, bytes4, bytes9}
-use Rattle.wire.specs.Text.{reasonName, stateText, addressText}
+use Rattle.text.specs.Text.{reasonName, stateText, addressText}
 use Rattle.wire.specs.declared.Message.{Message}
 use Rattle.wire.specs.declared.Message.the-variants.{Tmget, Tmput, Tproc, Tstatus, Trnote, Tstop, Tstart, Tcondbreak}
 use Rattle.wire.specs.declared.Message.the-variants.{Rerr, Rmget, Rmput, Rproc, Rstatus, Rrnote, Rstop, Rstart, Rcondbreak}

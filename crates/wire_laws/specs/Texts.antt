@@ -16,12 +16,12 @@ use Rattle.common.proofs.Bytes.{high-round, high-fits, high-are-bytes, bytes-te
 use Rattle.common.proofs.Every.{every-at}
 use Rattle.common.proofs.Lists.{bytes-padded}
 use Rattle.wire.specs.Codec.{errorAt}
-use Rattle.wire.specs.Text.{reasons, reasonName, reasonText, reasonPlace, hexDigit, hexBytes, digitValue, pairValue}
-use Rattle.wire.specs.Text.{stateNames, stateText, stateOf, addressText, addressOf}
+use Rattle.text.specs.Text.{reasons, reasonName, reasonText, reasonPlace, hexDigit, hexBytes, digitValue, pairValue}
+use Rattle.text.specs.Text.{stateNames, stateText, stateOf, addressText, addressOf}
 use Rattle.wire.specs.declared.Message.the-variants.{Rerr}
 use Rattle.wire.specs.declared.Reading.the-variants.{Accepted}
-use Rattle.wire.specs.declared.Reason.{Reason}
-use Rattle.wire.specs.declared.Reason.the-variants.{Reset, Count, Unk, Inval, Pid, Unsup, Notstop}
+use Rattle.text.specs.declared.Reason.{Reason}
+use Rattle.text.specs.declared.Reason.the-variants.{Reset, Count, Unk, Inval, Pid, Unsup, Notstop}
 use Rattle.wire_laws.specs.Fields.{Word, Byte}
 
 -- ---- reasons

@@ -11,8 +11,8 @@ use Rattle.common.specs.Text.{codes, padded}
 use Rattle.wire.specs.Codec.{readOf, exactly, candidateOf, candidateBy, replyOf, errorAt, firstWord, data4, data9}
 use Rattle.wire.specs.Kind.{kinds, kindOf}
 use Rattle.wire.specs.Message.{isMessage, isPut, isOp, bytesOf, typeOf, fieldsOf, bytes4, bytes9}
-use Rattle.wire.specs.Text.{reasons, reasonName, reasonText, reasonPlace, hexDigit, hexBytes, digitValue, pairValue}
-use Rattle.wire.specs.Text.{stateNames, stateText, stateOf, addressText, addressOf}
+use Rattle.text.specs.Text.{reasons, reasonName, reasonText, reasonPlace, hexDigit, hexBytes, digitValue, pairValue}
+use Rattle.text.specs.Text.{stateNames, stateText, stateOf, addressText, addressOf}
 use Rattle.wire.specs.declared.Data4.{Data4}
 use Rattle.wire.specs.declared.Data9.{Data9}
 use Rattle.wire.specs.declared.Message.{Message}
@@ -20,7 +20,7 @@ use Rattle.wire.specs.declared.Message.the-variants.{Tmget, Tmput, Tproc, Tstat
 use Rattle.wire.specs.declared.Message.the-variants.{Rerr, Rmget, Rmput, Rproc, Rstatus, Rcondbreak}
 use Rattle.wire.specs.declared.Reading.{Reading}
 use Rattle.wire.specs.declared.Reading.the-variants.{Accepted, WrongSize, NoMessage}
-use Rattle.wire.specs.declared.Reason.the-variants.{Reset, Count, Inval, Pid}
+use Rattle.text.specs.declared.Reason.the-variants.{Reset, Count, Inval, Pid}
 
 abbrev four : ℕ → ℕ → ℕ → ℕ → Data4
 four a b c d = record { b0 = a; b1 = b; b2 = c; b3 = d }

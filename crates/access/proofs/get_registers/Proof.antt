@@ -6,10 +6,11 @@ use native.Mathlib.Omega.{arith}
 use denote.Ref.{now}
 use borrow.Author.Needs.{needs}
 use lib.ListN.{length}
+use Rattle.memory.proofs.Parts.{read-block}
 use Rattle.rules.specs.Outcome.{world}
 use Rattle.access.specs.Access.{blockOf}
 use Rattle.access.specs.declared.Block.the-variants.{At}
-use Rattle.access.proofs.Laws.{block-within, read-block, refuses, got-block, got-refused}
+use Rattle.access.proofs.Laws.{block-within, refuses, got-block, got-refused}
 use Rattle.access.proofs.get_registers.Statement.{statement}
 use Rattle.access.proofs.get_registers.Tie as tie
 
@@ -62,8 +63,8 @@ part-stretch-end c = omega (arith, fits c)
 stretch-requires : tie.Need-stretch-requires
 stretch-requires c κs = search needs
 
-part-read-requires : tie.Need-part-read-requires
-part-read-requires c κs = search needs
+read-requires : tie.Need-read-requires
+read-requires c κs = search needs
 
 rmget-requires : tie.Need-rmget-requires
 rmget-requires c κs = search needs
@@ -79,7 +80,7 @@ returns-2 c =
     let r = now (a .regs) in
     let i = k .before .block2 .given .0 .0 in
     got-block (world (a .t) m r) _ _ (c .rmget .ensures) (a .addr) (a .n) i (at k)
-    (read-block m (a .t .base) (a .addr) (a .n) _ _ r (136 * i) (s .pre .1) (fits k) (p .part-read .ensures) (e .stretch .ensures))
+    (p .read .ensures ∙ read-block m (a .t .base) (a .addr) (a .n) _ _ r (136 * i) (s .pre .1) (fits k) (e .stretch .ensures))
 
 pub get-registers-spec : {M : Type 1} → statement M
 get-registers-spec =
@@ -96,6 +97,6 @@ get-registers-spec =
     part-stretch-start
     part-stretch-end
     stretch-requires
-    part-read-requires
+    read-requires
     rmget-requires
     returns-2)

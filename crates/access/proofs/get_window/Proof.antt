@@ -1,13 +1,14 @@
 -- `access::get_window` meets its contract: the part of the window that is read, its bytes under traps plain. Assumes nothing.
-use mathlib.Core.Path.{_≡_}
+use mathlib.Core.Path.{_≡_, _∙_}
 use native.Mathlib.Omega.{arith}
 use denote.Ref.{now}
 use borrow.Author.Needs.{needs}
 use lib.ListN.{length}
 use Rattle.memory.specs.Place.{placeOf}
 use Rattle.memory.specs.declared.Place.the-variants.{Window}
+use Rattle.memory.proofs.Parts.{within-window, read-window}
 use Rattle.rules.specs.Outcome.{world}
-use Rattle.access.proofs.Laws.{ready-some, within-window, read-window, got-window}
+use Rattle.access.proofs.Laws.{ready-some, got-window}
 use Rattle.access.proofs.get_window.Statement.{statement}
 use Rattle.access.proofs.get_window.Tie as tie
 
@@ -35,8 +36,8 @@ part-stretch-end c =
 stretch-requires : tie.Need-stretch-requires
 stretch-requires c κs = search needs
 
-part-read-requires : tie.Need-part-read-requires
-part-read-requires c κs = search needs
+read-requires : tie.Need-read-requires
+read-requires c κs = search needs
 
 rmget-requires : tie.Need-rmget-requires
 rmget-requires c κs = search needs
@@ -53,7 +54,7 @@ returns c =
     let q : placeOf (t .base) (length m) (a .addr) (a .n) ≡ Window = rw (r .memory) (s .pre .1) in
     got-window (world t m (now (a .regs))) _ _ (c .rmget .ensures) (a .addr) (a .n)
     (rw (← r .sites, ← r .plain)
-    (read-window m (t .base) (a .addr) (a .n) _ _ (a .s .sites) (a .s .plain) _ q (p .part-read .ensures) (e .stretch .ensures)))
+    (p .read .ensures ∙ read-window m (t .base) (a .addr) (a .n) _ (a .s .sites) (a .s .plain) _ q (e .stretch .ensures)))
 
 pub get-window-spec : {M : Type 1} → statement M
 get-window-spec =
@@ -65,6 +66,6 @@ get-window-spec =
     part-stretch-start
     part-stretch-end
     stretch-requires
-    part-read-requires
+    read-requires
     rmget-requires
     returns)

@@ -1,8 +1,9 @@
 -- `access::mget` meets its contract: nothing is read where n is 0, else the place that the address names decides. Assumes nothing.
 use mathlib.Core.Path.{refl}
 use borrow.Author.Needs.{needs}
+use Rattle.memory.proofs.Parts.{named, within-registers}
 use Rattle.rules.specs.Request.{gotFrom}
-use Rattle.access.proofs.Laws.{ready-listed, named, within-registers, refuses, got-none, got-from}
+use Rattle.access.proofs.Laws.{ready-listed, refuses, got-none, got-from}
 use Rattle.access.proofs.mget.Statement.{statement}
 use Rattle.access.proofs.mget.Tie as tie
 

@@ -1,21 +1,28 @@
 -- `access::mput` meets its contract: nothing is written where n is 0, else the place that the address names decides. Assumes nothing.
 use mathlib.Core.Path.{sym}
+use Prim.Native.Nat.{_+_, _≤_}
 use native.Mathlib.Omega.{arith}
 use denote.Ref.{now}
 use borrow.Author.Needs.{needs}
 use lib.Seq.{length-take-le}
+use Rattle.memory.proofs.Parts.{named, within-registers, within-window}
+use Rattle.rules.specs.Change.{applied}
 use Rattle.rules.specs.Outcome.{world}
 use Rattle.rules.specs.Request.{putTo}
 use Rattle.wire.specs.Message.{bytes4}
-use Rattle.access.proofs.Laws.{ready-listed, named, within-registers, within-window, refuses, put-window, put-none, put-to}
+use Rattle.access.proofs.Laws.{ready-listed, refuses, put-window, put-none, put-to}
 use Rattle.access.proofs.mput.Statement.{statement}
 use Rattle.access.proofs.mput.Tie as tie
 
 bytes-of-requires : tie.Need-bytes-of-requires
 bytes-of-requires c κs = search needs
 
+with-requires : tie.Need-with-requires
+with-requires c κs = search needs
+
 returns : tie.Need-returns
-returns c = put-none _ _ _ _ (c .if1 .taken) _ (c .before .bytes-of .ensures)
+unfolding applied
+returns c = rw (c .with .ensures) (put-none _ _ _ _ (c .before .if1 .taken) _ (c .before .before .bytes-of .ensures))
 
 place-of-requires : tie.Need-place-of-requires
 place-of-requires c κs = search needs
@@ -42,28 +49,42 @@ put-registers-requires c κs =
     let z = length-take-le (a .n) (bytes4 (a .d)) (s .pre .1) in
     (ready-listed _ _ _ _ (s .pre .0), omega arith)
 
+with-requires-2 : tie.Need-with-requires-2
+with-requires-2 c κs = search needs
+
 enum-told-2 : tie.Need-enum-told-2
 enum-told-2 c = search needs
+
+-- the bytes lie in the window
+inside : (c : tie.After-enum-told2)
+    → let a = c .before .before .before .before .before .before .before .args in
+    (a .t .base ≤ a .addr) × (a .addr + a .n ≤ a .t .base + a .t .size)
+inside c =
+    let k = c .before .before in
+    let a = k .before .before .before .before .before .args in
+    within-window (a .t .base) (a .t .size) (a .addr) (a .n) (named _ _ _ _ _ _ (k .place-of .ensures) (c .enum-told2 .given .1))
+
+sub-at : tie.Need-sub-at
+sub-at c = inside (c .before .before .before) .0
+
+cast-at : tie.Need-cast-at
+cast-at c = search needs
 
 array-share-prefix-bytes-2 : tie.Need-array-share-prefix-bytes-2
 array-share-prefix-bytes-2 c = search needs
 
-slice-aggregate-put-window : tie.Need-slice-aggregate-put-window
-slice-aggregate-put-window c = sym (length-take-le _ _ (omega arith))
+slice-aggregate-write : tie.Need-slice-aggregate-write
+slice-aggregate-write c = sym (length-take-le _ _ (omega arith))
 
-put-window-requires : tie.Need-put-window-requires
+write-requires : tie.Need-write-requires
 unfolding bytes4
-put-window-requires c κs =
-    let e = c .before .before in
-    let k = e .before .before in
-    let s = k .before .before .before .before .before in
+write-requires c κs =
+    let e = c .before .before .before .before .before .before .before in
+    let s = e .before .before .before .before .before .before .before in
     let a = s .args in
-    let h =
-    within-window (a .t .base) (a .t .size) (a .addr) (a .n)
-    (named _ _ _ _ _ _ (k .place-of .ensures) (e .enum-told2 .given .1)) in
+    let h = inside e in
     let z = length-take-le (a .n) (bytes4 (a .d)) (s .pre .1) in
-    let r = s .pre .0 in
-    (r .sites, r .plain, h .0, omega (arith, r .memory))
+    omega (arith, s .pre .0 .memory)
 
 enum-told-3 : tie.Need-enum-told-3
 enum-told-3 c = search needs
@@ -71,18 +92,22 @@ enum-told-3 c = search needs
 rerr-requires : tie.Need-rerr-requires
 rerr-requires c κs = search needs
 
+with-requires-3 : tie.Need-with-requires-3
+with-requires-3 c κs = search needs
+
 same-length : tie.Need-same-length
 same-length c = search needs
 
 returns-2 : tie.Need-returns-2
-unfolding bytes4
+unfolding bytes4 applied
 returns-2 c =
-    let p = c .before .before in
+    let p = c .before .before .before in
     let e = p .before .before .before in
     let k = e .before .before in
     let a = k .before .before .before .before .before .args in
-    put-to (world (a .t) (now (a .mem)) (now (a .regs))) (a .addr) (a .n) (a .d) (k .before .if1 .left) _
-    (named _ _ _ _ _ _ (k .place-of .ensures) (e .enum-told .given .1)) _ (p .put-registers .ensures (now (a .mem)))
+    rw (c .with2 .ensures)
+    (put-to (world (a .t) (now (a .mem)) (now (a .regs))) (a .addr) (a .n) (a .d) (k .before .if1 .left) _
+    (named _ _ _ _ _ _ (k .place-of .ensures) (e .enum-told .given .1)) _ (p .put-registers .ensures (now (a .mem))))
 
 same-length-2 : tie.Need-same-length-2
 same-length-2 c = search needs
@@ -91,37 +116,45 @@ returns-3 : tie.Need-returns-3
 unfolding bytes4
 returns-3 c =
     let p = c .before .before in
-    let e = p .before .before .before in
+    let e = p .before .before .before .before .before .before .before .before in
     let k = e .before .before in
-    let a = k .before .before .before .before .before .args in
+    let s = k .before .before .before .before .before in
+    let a = s .args in
     let w = world (a .t) (now (a .mem)) (now (a .regs)) in
     put-to w (a .addr) (a .n) (a .d) (k .before .if1 .left) _ (named _ _ _ _ _ _ (k .place-of .ensures) (e .enum-told2 .given .1)) _
-    (put-window w (a .addr) _ _ _ (p .put-window .ensures (now (a .regs))) (k .before .before .bytes-of .ensures))
+    (put-window w (a .addr) _ _ _ (s .pre .0 .sites) (s .pre .0 .plain) _ _ _ (p .write .ensures .0) (p .write .ensures .1)
+    (k .before .before .bytes-of .ensures))
 
 returns-4 : tie.Need-returns-4
-unfolding putTo
+unfolding putTo applied
 returns-4 c =
-    let k = c .before .before .before in
-    put-to _ _ _ _ (k .before .if1 .left) _ (named _ _ _ _ _ _ (k .place-of .ensures) (c .before .enum-told3 .given .1)) _
-    (refuses _ _ _ (c .rerr .ensures))
+    let k = c .before .before .before .before in
+    rw (c .with3 .ensures)
+    (put-to _ _ _ _ (k .before .if1 .left) _
+    (named _ _ _ _ _ _ (k .place-of .ensures) (c .before .before .enum-told3 .given .1)) _ (refuses _ _ _ (c .before .rerr .ensures)))
 
 pub mput-spec : {M : Type 1} → statement M
 mput-spec =
     tie.close
     (tie.spec
     bytes-of-requires
+    with-requires
     returns
     place-of-requires
     enum-told
     array-share-prefix-bytes
     slice-aggregate-put-registers
     put-registers-requires
+    with-requires-2
     enum-told-2
+    sub-at
+    cast-at
     array-share-prefix-bytes-2
-    slice-aggregate-put-window
-    put-window-requires
+    slice-aggregate-write
+    write-requires
     enum-told-3
     rerr-requires
+    with-requires-3
     same-length
     returns-2
     same-length-2

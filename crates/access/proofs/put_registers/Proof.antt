@@ -6,10 +6,11 @@ use native.Mathlib.Omega.{arith}
 use denote.Ref.{now}
 use borrow.Author.Needs.{needs}
 use lib.ListN.{length}
+use Rattle.memory.proofs.Parts.{put-copied}
 use Rattle.rules.specs.Outcome.{world}
 use Rattle.access.specs.Access.{blockOf}
 use Rattle.access.specs.declared.Block.the-variants.{At}
-use Rattle.access.proofs.Laws.{block-within, refuses, put-copied, put-zero, put-refused, put-block}
+use Rattle.access.proofs.Laws.{block-within, refuses, put-zero, put-refused, put-block}
 use Rattle.access.proofs.put_registers.Statement.{statement}
 use Rattle.access.proofs.put_registers.Tie as tie
 

@@ -4,10 +4,13 @@ use mathlib.Core.List.{List}
 use Prim.Native.Nat.{ℕ}
 use borrow.Author.Needs.{needs}
 use borrow.Author.Tests.{eq-eqb}
+use Rattle.condition.specs.Add.{addOf}
 use Rattle.condition.specs.declared.Room.{Room}
 use Rattle.condition.specs.declared.Room.the-variants.{Fits, Full, Short}
+use Rattle.rules.specs.Change.{applied}
 use Rattle.rules.specs.Condition.{inHand, joined, addElement}
 use Rattle.rules.specs.Outcome.{world}
+use Rattle.target.specs.declared.Element.{Element}
 use Rattle.breaks.proofs.Laws.{add-joined}
 use Rattle.breaks.proofs.add.Statement.{statement}
 use Rattle.breaks.proofs.add.Tie as tie
@@ -16,17 +19,21 @@ use Rattle.breaks.proofs.add.Tie as tie
 abbrev start : tie.After-add → tie.Start
 start a = a .before .before .before .before .before
 
+abbrev element : tie.Start → Element
+element s = record { letter = s .args .letter; value = s .args .value }
+
 decided : (a : tie.After-add) (r : Room) → a .add .result .room ≡ r → (mem regs : List ℕ)
-    → joined (world (start a .args .t) mem regs) (a .add .result) r
-    ≡ addElement (world (start a .args .t) mem regs) (record { letter = start a .args .letter; value = start a .args .value })
-decided a r e mem regs = add-joined (world (start a .args .t) mem regs) _ (a .add .result) r (a .before .if1 .left) (a .add .ensures) e
+    → joined (world (start a .args .t) mem regs) (addOf (start a .args .t .table .draft) (element (start a))) r
+    ≡ addElement (world (start a .args .t) mem regs) (element (start a))
+decided a r e mem regs =
+    add-joined (world (start a .args .t) mem regs) (element (start a)) r (a .before .if1 .left) (rw (a .add .ensures) at e)
 
 fail-requires : tie.Need-fail-requires
 fail-requires c κs = search needs
 
 returns : tie.Need-returns
 unfolding addElement inHand
-returns c = λ mem regs. rw (eq-eqb _ 0 (c .before .if1 .taken)) (c .fail .ensures mem regs)
+returns c = λ mem regs. rw (eq-eqb _ 0 (c .before .if1 .taken)) (c .fail .ensures _ mem regs)
 
 add-requires : tie.Need-add-requires
 add-requires c κs = search needs
@@ -34,8 +41,8 @@ add-requires c κs = search needs
 enum-told : tie.Need-enum-told
 enum-told c = search needs
 
-with-draft-requires : tie.Need-with-draft-requires
-with-draft-requires c κs = search needs
+done-requires : tie.Need-done-requires
+done-requires c κs = search needs
 
 enum-told-2 : tie.Need-enum-told-2
 enum-told-2 c = search needs
@@ -50,22 +57,22 @@ fail-requires-3 : tie.Need-fail-requires-3
 fail-requires-3 c κs = search needs
 
 returns-2 : tie.Need-returns-2
-unfolding joined
+unfolding applied joined
 returns-2 c =
     let t = c .before in
-    λ mem regs. c .with-draft .ensures mem regs ∙ decided (t .before .before .before) Fits (t .enum-told .given .1) mem regs
+    λ mem regs. c .done .ensures _ mem regs ∙ decided (t .before .before) Fits (t .enum-told .given .1) mem regs
 
 returns-3 : tie.Need-returns-3
 unfolding joined
 returns-3 c =
     let t = c .before in
-    λ mem regs. c .fail2 .ensures mem regs ∙ decided (t .before .before .before) Full (t .enum-told2 .given .1) mem regs
+    λ mem regs. c .fail2 .ensures _ mem regs ∙ decided (t .before .before) Full (t .enum-told2 .given .1) mem regs
 
 returns-4 : tie.Need-returns-4
 unfolding joined
 returns-4 c =
     let t = c .before in
-    λ mem regs. c .fail3 .ensures mem regs ∙ decided (t .before .before .before) Short (t .enum-told3 .given .1) mem regs
+    λ mem regs. c .fail3 .ensures _ mem regs ∙ decided (t .before .before) Short (t .enum-told3 .given .1) mem regs
 
 pub add-spec : {M : Type 1} → statement M
 add-spec =
@@ -75,7 +82,7 @@ add-spec =
     returns
     add-requires
     enum-told
-    with-draft-requires
+    done-requires
     enum-told-2
     fail-requires-2
     enum-told-3

@@ -7,18 +7,18 @@ use Prim.Native.Nat.{ℕ, _≤_, _<_}
 use native.Mathlib.Omega.{arith}
 use borrow.Author.Needs.{needs}
 use borrow.Author.Tests.{lt-ltb, le-ltb, le-leb, lt-leb}
-use denote.Ref.{now}
 use lib.Dec.{leb}
 use lib.ListN.{length}
 use Rattle.common.proofs.First.{first-within}
 use Rattle.fit.specs.Fit.{entryOf}
+use Rattle.rules.specs.Change.{applied}
 use Rattle.rules.specs.Condition.{failed, begun, beginCondition}
 use Rattle.rules.specs.Outcome.{world, replied}
 use Rattle.rules.specs.Record.{withDraft}
 use Rattle.target.specs.Free.{isFree, firstFree}
 use Rattle.target.specs.declared.Target.{Target}
 use Rattle.wire.specs.declared.Message.the-variants.{Rcondbreak}
-use Rattle.wire.specs.declared.Reason.the-variants.{Count, Inval}
+use Rattle.text.specs.declared.Reason.the-variants.{Count, Inval}
 use Rattle.breaks.proofs.Laws.{shaped-of, id-found}
 use Rattle.breaks.proofs.begin.Statement.{statement}
 use Rattle.breaks.proofs.begin.Tie as tie
@@ -62,7 +62,7 @@ fail-requires c κs = search needs
 
 returns : tie.Need-returns
 unfolding beginCondition
-returns c = rw (lt-ltb 255 _ (c .before .if1 .taken)) (c .fail .ensures _ _)
+returns c = rw (lt-ltb 255 _ (c .before .if1 .taken)) (c .fail .ensures _ _ _)
 
 entry-of-requires : tie.Need-entry-of-requires
 entry-of-requires c κs = search needs
@@ -74,7 +74,7 @@ returns-2 : tie.Need-returns-2
 returns-2 c =
     let f = c .before .before in
     let s = start f in
-    c .fail2 .ensures _ _ ∙ used (s .args .t) _ _ (s .args .val) (eight-at s) (omega arith) (omega (arith, found f))
+    c .fail2 .ensures _ _ _ ∙ used (s .args .t) _ _ (s .args .val) (eight-at s) (omega arith) (omega (arith, found f))
 
 first-free-requires : tie.Need-first-free-requires
 first-free-requires c κs = search needs
@@ -86,24 +86,21 @@ returns-3 : tie.Need-returns-3
 returns-3 c =
     let f = c .before .before .before .before .before in
     let s = start f in
-    c .fail3 .ensures _ _ ∙ full (s .args .t) _ _ (s .args .val) (eight-at s) (omega arith) (omega (arith, found f)) (omega arith)
+    c .fail3 .ensures _ _ _ ∙ full (s .args .t) _ _ (s .args .val) (eight-at s) (omega arith) (omega (arith, found f)) (omega arith)
 
-closed-requires : tie.Need-closed-requires
-closed-requires c κs = search needs
+cast-id : tie.Need-cast-id
+cast-id c = search needs
 
-cast-d : tie.Need-cast-d
-cast-d c = search needs
-
-with-draft-requires : tie.Need-with-draft-requires
-with-draft-requires c κs = search needs
+done-requires : tie.Need-done-requires
+done-requires c κs = search needs
 
 returns-4 : tie.Need-returns-4
-unfolding begun
+unfolding applied
 returns-4 c =
-    let e = c .before .before in
+    let e = c .before in
     let f = e .before .before .before .before in
     let s = start f in
-    (rw (c .before .closed .ensures) at (c .with-draft .ensures (now (s .args .mem)) (now (s .args .regs))))
+    c .done .ensures (s .args .t) _ _
     ∙ begins (s .args .t) _ _ (s .args .val) (eight-at s) (omega arith) (omega (arith, found f)) (λ h. e .if3 .left (omega arith))
 
 pub begin-spec : {M : Type 1} → statement M
@@ -118,7 +115,6 @@ begin-spec =
     first-free-requires
     fail-requires-3
     returns-3
-    closed-requires
-    cast-d
-    with-draft-requires
+    cast-id
+    done-requires
     returns-4)

@@ -8,6 +8,7 @@ use borrow.Author.Tests.{lt-ltb, le-ltb, le-leb, lt-leb}
 use denote.Ref.{now}
 use lib.ListN.{length}
 use Rattle.fit.specs.Fit.{entryOf}
+use Rattle.rules.specs.Change.{applied}
 use Rattle.rules.specs.Condition.{deleteBreakpoint}
 use Rattle.rules.specs.FitFacts.{facts-of}
 use Rattle.rules.specs.Found.{id-is-used}
@@ -30,15 +31,18 @@ eight s = shaped-of (s .args .t) _ (s .good .0) .entries
 bytes-of-requires : tie.Need-bytes-of-requires
 bytes-of-requires c κs = search needs
 
+with-requires : tie.Need-with-requires
+with-requires c κs = search needs
+
 returns : tie.Need-returns
-unfolding deleteBreakpoint error replied
-returns c = rw (lt-leb _ 255 (c .if1 .taken), c .before .bytes-of .ensures)
+unfolding applied deleteBreakpoint error replied
+returns c = let t = c .before in rw (lt-leb _ 255 (t .if1 .taken), c .with .ensures, t .before .bytes-of .ensures)
 
 entry-of-requires : tie.Need-entry-of-requires
 entry-of-requires c κs = search needs
 
-remove-requires : tie.Need-remove-requires
-remove-requires c κs =
+put-back-requires : tie.Need-put-back-requires
+put-back-requires c κs =
     let t = c .before in
     let f = t .before in
     let s = start f in
@@ -49,14 +53,14 @@ remove-requires c κs =
     let u = id-is-used es val (omega arith) (omega (arith, eight s)) in
     record { below = t .if2 .taken; low = rw (found f) (facts-of _ _ g .used _ (k, u) .low) }
 
-bytes-of-requires-2 : tie.Need-bytes-of-requires-2
-bytes-of-requires-2 c κs = search needs
+done-requires : tie.Need-done-requires
+done-requires c κs = search needs
 
 same-length : tie.Need-same-length
 same-length c = search needs
 
 returns-2 : tie.Need-returns-2
-unfolding deleteBreakpoint replied
+unfolding applied deleteBreakpoint
 returns-2 c =
     let r = c .before .before .before in
     let f = r .before .before .before in
@@ -66,21 +70,24 @@ returns-2 c =
     rw (
       le-leb val 255 (omega arith),
       lt-ltb (entryOf es val) (length es) (omega (arith, eight s, found f)),
-      c .bytes-of2 .ensures,
       ← found f,
     )
-    (ap (replied Rcondbreak) (r .remove .ensures (now (s .args .regs))))
+    (c .done .ensures (s .args .t) _ _ ∙ ap (replied Rcondbreak) (r .put-back .ensures (now (s .args .regs))))
+
+with-requires-2 : tie.Need-with-requires-2
+with-requires-2 c κs = search needs
 
 returns-3 : tie.Need-returns-3
-unfolding deleteBreakpoint error replied
+unfolding applied deleteBreakpoint error replied
 returns-3 c =
-    let f = c .before in
+    let f = c .before .before in
     let s = start f in
     let es = s .args .t .table .entries in
     let val = s .args .val in
     rw (
       le-leb val 255 (omega arith),
       le-ltb (entryOf es val) (length es) (omega (arith, eight s, found f)),
+      c .with2 .ensures,
       f .before .before .before .before .bytes-of .ensures,
     )
 
@@ -89,10 +96,12 @@ delete-spec =
     tie.close
     (tie.spec
     bytes-of-requires
+    with-requires
     returns
     entry-of-requires
-    remove-requires
-    bytes-of-requires-2
+    put-back-requires
+    done-requires
     same-length
     returns-2
+    with-requires-2
     returns-3)

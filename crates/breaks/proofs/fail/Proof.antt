@@ -1,20 +1,20 @@
 -- `breaks::fail` meets its contract: the record's one change and the reply are the definition's. Assumes nothing.
 use borrow.Author.Needs.{needs}
+use Rattle.rules.specs.Change.{applied}
 use Rattle.rules.specs.Condition.{dropped, failed}
 use Rattle.rules.specs.Outcome.{replied, error}
-use Rattle.rules.specs.Record.{withTable, withDraft}
 use Rattle.breaks.proofs.fail.Statement.{statement}
 use Rattle.breaks.proofs.fail.Tie as tie
-
-closed-requires : tie.Need-closed-requires
-closed-requires c κs = search needs
 
 bytes-of-requires : tie.Need-bytes-of-requires
 bytes-of-requires c κs = search needs
 
+with-requires : tie.Need-with-requires
+with-requires c κs = search needs
+
 returns : tie.Need-returns
-unfolding failed dropped error replied withDraft withTable
-returns c = λ mem regs. rw (c .before .closed .ensures, c .bytes-of .ensures)
+unfolding applied failed dropped error replied
+returns c = λ t mem regs. rw (c .with .ensures, c .before .bytes-of .ensures)
 
 pub fail-spec : {M : Type 1} → statement M
-fail-spec = tie.close (tie.spec closed-requires bytes-of-requires returns)
+fail-spec = tie.close (tie.spec bytes-of-requires with-requires returns)

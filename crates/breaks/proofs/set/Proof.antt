@@ -1,5 +1,5 @@
--- `breaks::set` meets its contract: its tests are the definition's, in their order. A fit record has a free entry while
--- a condition is in hand, and a free site lies in the window. Assumes nothing.
+-- `breaks::set` meets its contract: its tests are the definition's, in their order. A free site lies in the
+-- window. Assumes nothing.
 use mathlib.Core.Path.{_≡_, sym, _∙_}
 use mathlib.Core.Bool.{true}
 use native.Mathlib.Omega.{arith}
@@ -8,9 +8,8 @@ use borrow.Author.Tests.{eq-eqb, ne-eqb, not-true, not-false}
 use denote.Ref.{now}
 use Rattle.condition.specs.Depth.{wellFormed}
 use Rattle.rules.specs.Condition.{inHand, siteFree, setBreakpoint}
-use Rattle.rules.specs.FitFacts.{tests-of}
 use Rattle.rules.specs.Outcome.{World, world}
-use Rattle.breaks.proofs.Laws.{draft-room, site-low, site-high}
+use Rattle.breaks.proofs.Laws.{site-low, site-high}
 use Rattle.breaks.proofs.set.Statement.{statement}
 use Rattle.breaks.proofs.set.Tie as tie
 
@@ -37,7 +36,7 @@ fail-requires c κs = search needs
 
 returns : tie.Need-returns
 unfolding setBreakpoint inHand
-returns c = rw (eq-eqb _ 0 (c .before .if1 .taken)) (c .fail .ensures _ _)
+returns c = rw (eq-eqb _ 0 (c .before .if1 .taken)) (c .fail .ensures _ _ _)
 
 site-free-requires : tie.Need-site-free-requires
 site-free-requires c κs = search needs
@@ -52,7 +51,7 @@ returns-2 : tie.Need-returns-2
 unfolding setBreakpoint
 returns-2 c =
     let f = c .before .before in
-    rw (held f, tested f ∙ not-true _ (c .before .if2 .taken)) (c .fail2 .ensures _ _)
+    rw (held f, tested f ∙ not-true _ (c .before .if2 .taken)) (c .fail2 .ensures _ _ _)
 
 depth-of-requires : tie.Need-depth-of-requires
 depth-of-requires c κs = search needs
@@ -68,7 +67,7 @@ unfolding setBreakpoint wellFormed
 returns-3 c =
     let d = c .before .before in
     let e = d .before .before in
-    rw (held (e .before), free e, ne-eqb _ 1 (λ h. c .before .if3 .taken (d .depth-of .ensures .0 ∙ h))) (c .fail3 .ensures _ _)
+    rw (held (e .before), free e, ne-eqb _ 1 (λ h. c .before .if3 .taken (d .depth-of .ensures .0 ∙ h))) (c .fail3 .ensures _ _ _)
 
 plant-requires : tie.Need-plant-requires
 plant-requires c κs =
@@ -82,7 +81,6 @@ plant-requires c κs =
       plain = s .pre .plain;
       low = low;
       high = omega (arith, site-high w (s .args .val) (free e), s .pre .memory);
-      free = draft-room _ _ (tests-of _ _ (s .pre .fit) .draft) (f .before .before .if1 .left);
     }
 
 same-length-3 : tie.Need-same-length-3

@@ -1,5 +1,6 @@
 -- `control::no_process` meets its contract: the bytes are those of Rerr. Assumes nothing.
 use borrow.Author.Needs.{needs}
+use Rattle.rules.specs.Change.{applied}
 use Rattle.rules.specs.Outcome.{error}
 use Rattle.control.proofs.Laws.{replies}
 use Rattle.control.proofs.no_process.Statement.{statement}
@@ -8,9 +9,12 @@ use Rattle.control.proofs.no_process.Tie as tie
 bytes-of-requires : tie.Need-bytes-of-requires
 bytes-of-requires c κs = search needs
 
+with-requires : tie.Need-with-requires
+with-requires c κs = search needs
+
 returns : tie.Need-returns
-unfolding error
-returns c = λ mem regs. replies _ _ _ (c .bytes-of .ensures)
+unfolding error applied
+returns c = λ t mem regs. replies _ _ _ _ (c .with .ensures) (c .before .bytes-of .ensures)
 
 pub no-process-spec : {M : Type 1} → statement M
-no-process-spec = tie.close (tie.spec bytes-of-requires returns)
+no-process-spec = tie.close (tie.spec bytes-of-requires with-requires returns)

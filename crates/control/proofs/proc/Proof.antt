@@ -1,7 +1,7 @@
 -- `control::proc` meets its contract: the test decides as whether the pid is listed. Assumes nothing.
 use mathlib.Core.Path.{_∙_}
 use borrow.Author.Needs.{needs}
-use Rattle.rules.specs.Record.{withCurrent}
+use Rattle.rules.specs.Change.{applied}
 use Rattle.rules.specs.Request.{proc}
 use Rattle.control.proofs.Laws.{replies, unlisted, listed}
 use Rattle.control.proofs.proc.Statement.{statement}
@@ -20,7 +20,7 @@ returns : tie.Need-returns
 unfolding proc
 returns c =
     let q = c .before .before in
-    λ mem regs. c .no-process .ensures mem regs ∙ unlisted _ _ _ (q .process-of .ensures) (c .before .if1 .taken) _
+    λ mem regs. c .no-process .ensures _ mem regs ∙ unlisted _ _ _ (q .process-of .ensures) (c .before .if1 .taken) _
 
 mul-p : tie.Need-mul-p
 mul-p c = search needs
@@ -31,11 +31,17 @@ array-copy-out-p c = search needs
 bytes-of-requires : tie.Need-bytes-of-requires
 bytes-of-requires c κs = search needs
 
+with-requires : tie.Need-with-requires
+with-requires c κs = search needs
+
 returns-2 : tie.Need-returns-2
-unfolding proc withCurrent
+unfolding proc applied
 returns-2 c =
-    let q = c .before .before in
-    λ mem regs. replies _ _ _ (c .bytes-of .ensures) ∙ listed _ _ _ (q .before .process-of .ensures) (q .if1 .left) _
+    let b = c .before in
+    let q = b .before .before in
+    λ mem regs.
+    replies _ _ _ _ (c .with .ensures) (b .bytes-of .ensures)
+    ∙ listed _ _ _ (q .before .process-of .ensures) (q .if1 .left) _
 
 pub proc-spec : {M : Type 1} → statement M
 proc-spec =
@@ -48,4 +54,5 @@ proc-spec =
     mul-p
     array-copy-out-p
     bytes-of-requires
+    with-requires
     returns-2)

@@ -1,6 +1,7 @@
 -- `control::rnote` meets its contract: the test decides as whether the pid is listed. Assumes nothing.
 use mathlib.Core.Path.{_∙_}
 use borrow.Author.Needs.{needs}
+use Rattle.rules.specs.Change.{applied}
 use Rattle.rules.specs.Request.{rnote}
 use Rattle.control.proofs.Laws.{replies, unlisted, listed}
 use Rattle.control.proofs.rnote.Statement.{statement}
@@ -19,18 +20,24 @@ returns : tie.Need-returns
 unfolding rnote
 returns c =
     let q = c .before .before in
-    λ mem regs. c .no-process .ensures mem regs ∙ unlisted _ _ _ (q .process-of .ensures) (c .before .if1 .taken) _
+    λ mem regs. c .no-process .ensures _ mem regs ∙ unlisted _ _ _ (q .process-of .ensures) (c .before .if1 .taken) _
 
 bytes-of-requires : tie.Need-bytes-of-requires
 bytes-of-requires c κs = search needs
 
+with-requires : tie.Need-with-requires
+with-requires c κs = search needs
+
 returns-2 : tie.Need-returns-2
-unfolding rnote
+unfolding rnote applied
 returns-2 c =
-    let q = c .before in
-    λ mem regs. replies _ _ _ (c .bytes-of .ensures) ∙ listed _ _ _ (q .before .process-of .ensures) (q .if1 .left) _
+    let b = c .before in
+    let q = b .before in
+    λ mem regs.
+    replies _ _ _ _ (c .with .ensures) (b .bytes-of .ensures)
+    ∙ listed _ _ _ (q .before .process-of .ensures) (q .if1 .left) _
 
 pub rnote-spec : {M : Type 1} → statement M
 rnote-spec =
     tie.close
-    (tie.spec cast-n process-of-requires no-process-requires returns bytes-of-requires returns-2)
+    (tie.spec cast-n process-of-requires no-process-requires returns bytes-of-requires with-requires returns-2)

@@ -5,7 +5,7 @@ use Prim.Native.Nat.{_<_, _≤_}
 use native.Mathlib.Omega.{arith}
 use borrow.Author.Needs.{needs}
 use lib.ListN.{length}
-use Rattle.rules.specs.Record.{withProcesses, setState}
+use Rattle.rules.specs.Change.{applied}
 use Rattle.rules.specs.Request.{start}
 use Rattle.target.proofs.Shape.{table-entries, target-table}
 use Rattle.control.proofs.Laws.{replies, unlisted, when-not, facts, start-none, start-one, site-low}
@@ -36,7 +36,7 @@ returns : tie.Need-returns
 unfolding start
 returns c =
     let q = c .before .before in
-    c .no-process .ensures _ _ ∙ unlisted _ _ _ (q .process-of .ensures) (c .before .if1 .taken) _
+    c .no-process .ensures _ _ _ ∙ unlisted _ _ _ (q .process-of .ensures) (c .before .if1 .taken) _
 
 bytes-of-requires : tie.Need-bytes-of-requires
 bytes-of-requires c κs = search needs
@@ -47,19 +47,16 @@ mul-p c = search needs
 array-copy-out-p : tie.Need-array-copy-out-p
 array-copy-out-p c = below (c .before)
 
-set-state-requires : tie.Need-set-state-requires
-set-state-requires c κs = below (c .before .before .before .before)
+with-requires : tie.Need-with-requires
+with-requires c κs = search needs
 
 returns-2 : tie.Need-returns-2
-unfolding start
+unfolding start applied
 returns-2 c =
     let b = c .before .before .before .before in
     let q = b .before in
-    rw (c .set-state .ensures)
-    (replies _ _ _ (b .bytes-of .ensures) ∙ when-not _ _ _ (q .before .process-of .ensures) (q .if1 .left) _ _ _ (c .before .if2 .taken))
-
-set-state-requires-2 : tie.Need-set-state-requires-2
-set-state-requires-2 c κs = below (c .before .before .before .before)
+    replies _ _ _ _ (c .with .ensures) (b .bytes-of .ensures)
+    ∙ when-not _ _ _ (q .before .process-of .ensures) (q .if1 .left) _ _ _ (c .before .if2 .taken)
 
 pc-at-requires : tie.Need-pc-at-requires
 pc-at-requires c κs = search needs
@@ -67,44 +64,49 @@ pc-at-requires c κs = search needs
 breakpoint-at-requires : tie.Need-breakpoint-at-requires
 breakpoint-at-requires c κs = search needs
 
+with-requires-2 : tie.Need-with-requires-2
+with-requires-2 c κs = search needs
+
 same-length : tie.Need-same-length
 same-length c = search needs
 
 returns-3 : tie.Need-returns-3
+unfolding applied
 returns-3 c =
-    let a = c .before in
-    let r = a .before .before .before in
-    let b = r .before .before .before .before in
-    let q = b .before in
-    let s = q .before .before .before .before .before .before in
-    replies _ _ _ (b .bytes-of .ensures)
-    ∙ start-none _ _ _ (q .before .process-of .ensures) (q .if1 .left) (r .before .if2 .left) (eight s) _ (r .set-state2 .ensures)
-    _ _ (a .before .before .pc-at .ensures) (a .breakpoint-at .ensures) (c .if3 .taken)
-
-remove-requires : tie.Need-remove-requires
-unfolding setState withProcesses
-remove-requires c κs =
     let a = c .before .before in
     let r = a .before .before .before in
-    let s = r .before .before .before .before .before .before .before .before .before .before .before in
+    let b = r .before .before .before in
+    let q = b .before in
+    let s = q .before .before .before .before .before .before in
+    replies _ _ _ _ (c .with2 .ensures) (b .bytes-of .ensures)
+    ∙ start-none _ _ _ (q .before .process-of .ensures) (q .if1 .left) (r .if2 .left) (eight s)
+    _ _ (a .before .before .pc-at .ensures) (a .breakpoint-at .ensures) (c .before .if3 .taken)
+
+put-back-requires : tie.Need-put-back-requires
+put-back-requires c κs =
+    let a = c .before .before in
+    let s = a .before .before .before .before .before .before .before .before .before .before .before .before .before in
     let k : a .breakpoint-at .result < 8 = c .before .if3 .left in
-    rw (r .set-state2 .ensures)
-    (record { below = k; low = site-low (s .args .t) _ _ _ (s .pre .fit) (eight s) (a .breakpoint-at .ensures) k })
+    record { below = k; low = site-low (s .args .t) _ _ _ (s .pre .fit) (eight s) (a .breakpoint-at .ensures) k }
+
+with-requires-3 : tie.Need-with-requires-3
+with-requires-3 c κs = search needs
 
 same-length-2 : tie.Need-same-length-2
 same-length-2 c = search needs
 
 returns-4 : tie.Need-returns-4
+unfolding applied
 returns-4 c =
-    let m = c .before .before in
+    let m = c .before .before .before in
     let a = m .before .before .before in
     let r = a .before .before .before in
-    let b = r .before .before .before .before in
+    let b = r .before .before .before in
     let q = b .before in
     let s = q .before .before .before .before .before .before in
-    replies _ _ _ (b .bytes-of .ensures)
-    ∙ start-one _ _ _ (q .before .process-of .ensures) (q .if1 .left) (r .before .if2 .left) (eight s) _ (r .set-state2 .ensures)
-    _ _ (a .before .before .pc-at .ensures) (a .breakpoint-at .ensures) (m .before .before .if3 .left) _ (m .remove .ensures _)
+    replies _ _ _ _ (c .with3 .ensures) (b .bytes-of .ensures)
+    ∙ start-one _ _ _ (q .before .process-of .ensures) (q .if1 .left) (r .if2 .left) (eight s)
+    _ _ (a .before .before .pc-at .ensures) (a .breakpoint-at .ensures) (m .before .before .if3 .left) _ (m .put-back .ensures _)
 
 pub start-spec : {M : Type 1} → statement M
 start-spec =
@@ -117,13 +119,14 @@ start-spec =
     bytes-of-requires
     mul-p
     array-copy-out-p
-    set-state-requires
+    with-requires
     returns-2
-    set-state-requires-2
     pc-at-requires
     breakpoint-at-requires
+    with-requires-2
     same-length
     returns-3
-    remove-requires
+    put-back-requires
+    with-requires-3
     same-length-2
     returns-4)

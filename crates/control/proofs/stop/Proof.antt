@@ -1,6 +1,7 @@
 -- `control::stop` meets its contract: the tests decide as whether the pid is listed, and its process Stopped. Assumes nothing.
 use mathlib.Core.Path.{_∙_}
 use borrow.Author.Needs.{needs}
+use Rattle.rules.specs.Change.{applied}
 use Rattle.rules.specs.Request.{stop}
 use Rattle.control.proofs.Laws.{replies, unlisted, when-stopped, when-not}
 use Rattle.control.proofs.stop.Statement.{statement}
@@ -19,7 +20,7 @@ returns : tie.Need-returns
 unfolding stop
 returns c =
     let q = c .before .before in
-    λ mem regs. c .no-process .ensures mem regs ∙ unlisted _ _ _ (q .process-of .ensures) (c .before .if1 .taken) _
+    λ mem regs. c .no-process .ensures _ mem regs ∙ unlisted _ _ _ (q .process-of .ensures) (c .before .if1 .taken) _
 
 bytes-of-requires : tie.Need-bytes-of-requires
 bytes-of-requires c κs = search needs
@@ -30,25 +31,29 @@ mul-p c = search needs
 array-copy-out-p : tie.Need-array-copy-out-p
 array-copy-out-p c = search needs
 
+with-requires : tie.Need-with-requires
+with-requires c κs = search needs
+
 returns-2 : tie.Need-returns-2
-unfolding stop
+unfolding stop applied
 returns-2 c =
-    let b = c .before .before .before in
+    let b = c .before .before .before .before in
     let q = b .before in
     λ mem regs.
-    replies _ _ _ (b .bytes-of .ensures) ∙ when-stopped _ _ _ (q .before .process-of .ensures) (q .if1 .left) _ _ _ (c .if2 .taken)
+    replies _ _ _ _ (c .with .ensures) (b .bytes-of .ensures)
+    ∙ when-stopped _ _ _ (q .before .process-of .ensures) (q .if1 .left) _ _ _ (c .before .if2 .taken)
 
-set-state-requires : tie.Need-set-state-requires
-set-state-requires c κs = search needs
+with-requires-2 : tie.Need-with-requires-2
+with-requires-2 c κs = search needs
 
 returns-3 : tie.Need-returns-3
-unfolding stop
+unfolding stop applied
 returns-3 c =
     let b = c .before .before .before .before in
     let q = b .before in
     λ mem regs.
-    rw (c .set-state .ensures)
-    (replies _ _ _ (b .bytes-of .ensures) ∙ when-not _ _ _ (q .before .process-of .ensures) (q .if1 .left) _ _ _ (c .before .if2 .left))
+    replies _ _ _ _ (c .with2 .ensures) (b .bytes-of .ensures)
+    ∙ when-not _ _ _ (q .before .process-of .ensures) (q .if1 .left) _ _ _ (c .before .if2 .left)
 
 pub stop-spec : {M : Type 1} → statement M
 stop-spec =
@@ -61,6 +66,7 @@ stop-spec =
     bytes-of-requires
     mul-p
     array-copy-out-p
+    with-requires
     returns-2
-    set-state-requires
+    with-requires-2
     returns-3)

@@ -1,7 +1,9 @@
 -- `serve::refuse` meets its contract: the bytes decide whether the condition in hand is dropped. Assumes nothing.
 use mathlib.Core.Path.{sym, _∙_}
 use borrow.Author.Needs.{needs}
-use Rattle.rules.specs.Outcome.{replied, error}
+use Rattle.control.proofs.Laws.{replies}
+use Rattle.rules.specs.Change.{applied}
+use Rattle.rules.specs.Outcome.{error}
 use Rattle.rules.specs.Request.{refusedBy}
 use Rattle.serve.proofs.refuse.Statement.{statement}
 use Rattle.serve.proofs.refuse.Tie as tie
@@ -16,16 +18,20 @@ returns : tie.Need-returns
 unfolding refusedBy
 returns c =
     let f = c .before in
-    λ mem regs. rw (sym (f .before .drops-draft .ensures) ∙ f .if1 .taken) (c .fail .ensures mem regs)
+    λ t mem regs. rw (sym (f .before .drops-draft .ensures) ∙ f .if1 .taken) (c .fail .ensures t mem regs)
 
 bytes-of-requires : tie.Need-bytes-of-requires
 bytes-of-requires c κs = search needs
 
+with-requires : tie.Need-with-requires
+with-requires c κs = search needs
+
 returns-2 : tie.Need-returns-2
-unfolding refusedBy error replied
+unfolding refusedBy error applied
 returns-2 c =
-    let f = c .before in
-    λ mem regs. rw (sym (f .before .drops-draft .ensures) ∙ f .if1 .left, c .bytes-of .ensures)
+    let b = c .before in
+    let f = b .before in
+    λ t mem regs. rw (sym (f .before .drops-draft .ensures) ∙ f .if1 .left) (replies _ _ _ _ (c .with .ensures) (b .bytes-of .ensures))
 
 pub refuse-spec : {M : Type 1} → statement M
-refuse-spec = tie.close (tie.spec drops-draft-requires fail-requires returns bytes-of-requires returns-2)
+refuse-spec = tie.close (tie.spec drops-draft-requires fail-requires returns bytes-of-requires with-requires returns-2)

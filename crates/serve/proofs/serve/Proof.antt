@@ -14,6 +14,7 @@ use Rattle.common.specs.Keys.{among}
 use Rattle.common.proofs.Keys.{among-yes}
 use Rattle.common.proofs.Same.{true-or-false, and-both}
 use Rattle.control.proofs.Laws.{replies}
+use Rattle.rules.specs.Change.{applied}
 use Rattle.rules.specs.Outcome.{World, error}
 use Rattle.rules.specs.Request.{serve}
 use Rattle.wire.specs.Message.{isPut, isMessage}
@@ -21,7 +22,7 @@ use Rattle.wire.specs.declared.Data4.{Data4}
 use Rattle.wire.specs.declared.Message.{Message}
 use Rattle.wire.specs.declared.Message.the-variants.{Tmget, Tmput, Tproc, Tstatus, Trnote, Tstop, Tstart, Tcondbreak}
 use Rattle.wire.specs.declared.Message.the-variants.{Rerr, Rmget, Rmput, Rproc, Rstatus, Rrnote, Rstop, Rstart, Rcondbreak}
-use Rattle.wire.specs.declared.Reason.the-variants.{Inval}
+use Rattle.text.specs.declared.Reason.the-variants.{Inval}
 use Rattle.wire.proofs.Message.{the-type}
 use Rattle.serve.proofs.serve.Statement.{statement}
 use Rattle.serve.proofs.serve.Tie as tie
@@ -62,6 +63,9 @@ enum-known-m c = search needs
 
 mget-requires : tie.Need-mget-requires
 mget-requires c κs = search needs
+
+with-requires : tie.Need-with-requires
+with-requires c κs = search needs
 
 enum-known-m-2 : tie.Need-enum-known-m-2
 enum-known-m-2 c = search needs
@@ -111,6 +115,9 @@ condbreak-requires c κs = search needs
 bytes-of-requires : tie.Need-bytes-of-requires
 bytes-of-requires c κs = search needs
 
+with-requires-2 : tie.Need-with-requires-2
+with-requires-2 c κs = search needs
+
 same-length : tie.Need-same-length
 same-length c = search needs
 
@@ -118,8 +125,10 @@ same-length-2 : tie.Need-same-length-2
 same-length-2 c = search needs
 
 returns : tie.Need-returns
-unfolding serve
-returns c = rw (c .before .before .before .before .m .given .1) (c .mget .ensures)
+unfolding serve applied
+returns c =
+    let g = c .before in
+    rw (c .with .ensures, g .before .before .before .before .m .given .1) (g .mget .ensures)
 
 same-length-3 : tie.Need-same-length-3
 same-length-3 c = search needs
@@ -174,8 +183,10 @@ returns-8 c =
     rw (p .before .before .before .before .m8 .given .1) (p .condbreak .ensures)
 
 returns-9 : tie.Need-returns-9
-unfolding error
-returns-9 c = replies _ _ _ (c .bytes-of .ensures) ∙ others _ _ (among-yes _ _ (c .before .match .keys9))
+unfolding error applied
+returns-9 c =
+    let b = c .before in
+    replies _ _ _ _ (c .with2 .ensures) (b .bytes-of .ensures) ∙ others _ _ (among-yes _ _ (b .before .match .keys9))
 
 pub serve-spec : {M : Type 1} → statement M
 serve-spec =
@@ -183,6 +194,7 @@ serve-spec =
     (tie.spec
     enum-known-m
     mget-requires
+    with-requires
     enum-known-m-2
     mput-requires
     enum-known-m-3
@@ -198,6 +210,7 @@ serve-spec =
     enum-known-m-8
     condbreak-requires
     bytes-of-requires
+    with-requires-2
     same-length
     same-length-2
     returns

@@ -131,7 +131,7 @@ returns-5 c =
     let q = p .before in
     taken _ _ (ready-at q) _ _ _ (tens (q .before .before .before .before)) _
     (asked _ _ _ _ (sym (a .asked .given .1) ∙ p .parse .ensures) _
-    (accepts _ _ _ _ _ (d .accepted .ensures) ∙ s .serve .ensures))
+    (accepts _ _ _ _ _ _ (d .accepted .ensures) ∙ s .serve .ensures))
 
 same-length-5 : tie.Need-same-length-5
 same-length-5 c = search needs
@@ -149,7 +149,7 @@ returns-6 c =
     let q = p .before in
     taken _ _ (ready-at q) _ _ _ (tens (q .before .before .before .before)) _
     (asked _ _ _ _ (sym (a .asked2 .given .1) ∙ p .parse .ensures) _
-    (accepts _ _ _ _ _ (d .accepted2 .ensures) ∙ s .refuse .ensures _ _))
+    (accepts _ _ _ _ _ _ (d .accepted2 .ensures) ∙ s .refuse .ensures _ _ _))
 
 same-length-7 : tie.Need-same-length-7
 same-length-7 c = search needs

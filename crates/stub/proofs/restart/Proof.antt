@@ -71,8 +71,8 @@ restarted-requires c κs = few _ _ (ready-at (c .before .before .before .before 
 bytes-of-requires : tie.Need-bytes-of-requires
 bytes-of-requires c κs = search needs
 
-accepted-requires : tie.Need-accepted-requires
-accepted-requires c κs = search needs
+reply-with-requires : tie.Need-reply-with-requires
+reply-with-requires c κs = search needs
 
 same-length-2 : tie.Need-same-length-2
 same-length-2 c = search needs
@@ -89,7 +89,7 @@ returns-4 c =
     let o = u .before .before .before in
     let q = o .before .before .before .before .before .before in
     taken _ _ (ready-at q) _ _ _ (eq-eqb _ 10 (q .before .before .before .before .if2 .left)) _
-    (accepts _ _ _ _ _ (a .accepted .ensures)
+    (accepts _ _ _ _ _ _ (a .reply-with .ensures)
     ∙ restart-as _ _ (ready-at q) _ _ _ (u .restarted .ensures _ _) (o .restore .ensures) (m .bytes-of .ensures))
 
 pub restart-spec : {M : Type 1} → statement M
@@ -108,7 +108,7 @@ restart-spec =
     restore-requires
     restarted-requires
     bytes-of-requires
-    accepted-requires
+    reply-with-requires
     same-length-2
     same-length-3
     returns-4)

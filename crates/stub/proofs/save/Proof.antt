@@ -4,7 +4,7 @@ use denote.Ref.{now}
 use Prim.Native.Nat.{_+_, _*_, _≤_}
 use native.Mathlib.Omega.{arith}
 use lib.ListN.{length}
-use Rattle.access.proofs.Laws.{put-copied}
+use Rattle.memory.proofs.Parts.{put-copied}
 use Rattle.rules.specs.Record.{saved}
 use Rattle.stub.proofs.save.Statement.{statement}
 use Rattle.stub.proofs.save.Tie as tie

@@ -97,9 +97,7 @@ returns-5 c =
     (state-eight _ _ _ (f .process-of .ensures) (l .if3 .left) _ (c .before .if5 .taken))
 
 set-state-requires : tie.Need-set-state-requires
-set-state-requires c κs =
-    let l = c .before .before .before .before in
-    place _ _ (ready-at (l .before .before .before .before)) _ (l .if3 .left)
+set-state-requires c κs = search needs
 
 refused-requires-6 : tie.Need-refused-requires-6
 refused-requires-6 c κs = search needs

@@ -4,7 +4,7 @@ use mathlib.Core.List.{[], _∷_}
 use native.Mathlib.Omega.{arith}
 use borrow.Author.Needs.{needs}
 use lib.ListN.{length-set}
-use Rattle.trace.specs.Trace.{answerBytes}
+use Rattle.rules.specs.Outcome.{answerBytes}
 use Rattle.trace.proofs.Writes.{writes-stored, writes-whole, shown-refused}
 use Rattle.trace.proofs.show_answer.Statement.{statement}
 use Rattle.trace.proofs.show_answer.Tie as tie

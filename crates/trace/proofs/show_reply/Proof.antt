@@ -5,7 +5,8 @@ use native.Mathlib.Omega.{arith}
 use borrow.Author.Needs.{needs}
 use denote.Ref.{now}
 use lib.ListN.{length}
-use Rattle.trace.proofs.Writes.{length-over, writes-stored, writes-copied, shown-refused}
+use Rattle.memory_laws.specs.Bytes.{length-overwritten}
+use Rattle.trace.proofs.Writes.{writes-stored, writes-copied, shown-refused}
 use Rattle.trace.proofs.show_reply.Statement.{statement}
 use Rattle.trace.proofs.show_reply.Tie as tie
 
@@ -43,7 +44,7 @@ returns-2 c =
     writes-copied (now (a .out)) (a .number) (a .t2) _ 10 (e .if1 .left) (search needs) (omega arith) (k .copy .ensures)
 
 same-length-2 : tie.Need-same-length-2
-same-length-2 c = ap length (returns-2 c .buffer) ∙ length-over _ 0 _
+same-length-2 c = ap length (returns-2 c .buffer) ∙ length-overwritten _ 0 _
 
 pub show-reply-spec : {M : Type 1} → statement M
 show-reply-spec =

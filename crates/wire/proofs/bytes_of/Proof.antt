@@ -7,7 +7,7 @@ use lib.ListN.{length}
 use Rattle.common.specs.Bytes.{lowFirst, highFirst}
 use Rattle.common.specs.Text.{padded}
 use Rattle.common.proofs.Lists.{padded-whole}
-use Rattle.wire.specs.Text.{reasonText, hexBytes, addressText}
+use Rattle.text.specs.Text.{reasonText, hexBytes, addressText}
 use Rattle.wire.specs.Message.{bytes4, bytes9, typeOf, fieldsOf, bytesOf}
 use Rattle.wire.proofs.bytes_of.Statement.{statement}
 use Rattle.wire.proofs.bytes_of.Tie as tie

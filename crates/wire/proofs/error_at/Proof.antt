@@ -1,7 +1,7 @@
 -- `wire::error_at` meets its contract: the seven places one by one, and any other is 7 or more. Assumes nothing.
 use borrow.Author.Tests.{le-ltb}
 use Rattle.common.proofs.Keys.{beyond}
-use Rattle.wire.specs.Text.{reasons}
+use Rattle.text.specs.Text.{reasons}
 use Rattle.wire.specs.Codec.{errorAt}
 use Rattle.wire.proofs.error_at.Statement.{statement}
 use Rattle.wire.proofs.error_at.Tie as tie

@@ -4,7 +4,7 @@ use mathlib.Core.Path.{ap, _∙_}
 use Prim.Native.Nat.{ℕ}
 use Rattle.common.specs.Keys.{among, byKeys}
 use Rattle.common.proofs.Keys.{other-arm}
-use Rattle.wire.specs.Text.{reasonPlace, stateOf, addressOf}
+use Rattle.text.specs.Text.{reasonPlace, stateOf, addressOf}
 use Rattle.wire.specs.Codec.{errorAt, data9, replyOf}
 use Rattle.wire.specs.declared.Message.the-variants.{Rproc, Rstatus}
 use Rattle.wire.specs.declared.Reading.the-variants.{Accepted, NoMessage}

@@ -1,0 +1,181 @@
+-- Laws of the part of a buffer that an address names: where it lies, what is read of it, and what is put in its place. Assumes nothing.
+use mathlib.Core.Path.{_≡_, refl, sym, _∙_}
+use mathlib.Core.Bool.{Bool, true, false, cond, _&&_}
+use mathlib.Core.List.{List, _++_}
+use Prim.Native.Nat.{ℕ, _+_, _-_, _*_, _%_, _<_, _≤_, min}
+use native.Mathlib.Nat.{add-sub-cancel-left, mod-lt}
+use native.Mathlib.Omega.{arith}
+use borrow.Author.Tests.{lt-ltb, le-ltb, le-leb, lt-leb, ltb-true, leb-true}
+use lib.Dec.{ltb, leb}
+use lib.ListN.{length, getD, take, drop, replicate}
+use lib.ListN.{length-drop, length-take, length-append, length-replicate, getD-replicate, List·getD-append}
+use lib.Seq.{paste, getD-take, getD-drop, getD-append-add, length-take-le}
+use Rattle.common.proofs.Cases.{on-less}
+use Rattle.common.proofs.Lists.{copy-whole}
+use Rattle.common.proofs.Same.{and-both}
+use Rattle.common.proofs.Tab.{tab-is, tab-ext}
+use Rattle.memory.specs.Overlay.{noSite, slotOf, covered, plainAt}
+use Rattle.memory.specs.Place.{placeOf, stretchOf}
+use Rattle.memory.specs.declared.Place.{Place}
+use Rattle.memory.specs.declared.Place.the-variants.{Registers, Window, Nowhere}
+use Rattle.memory.specs.Write.{bytesAt, readOf, partRead, writtenAt, overwritten}
+use Rattle.memory.proofs.Site.{site-place}
+use Rattle.memory.proofs.Slots.{no-site-free, bare-by}
+use Rattle.memory.proofs.Laws.{is-covered, not-covered, place-registers}
+
+-- ---- where the bytes lie
+
+placed : (a b : Bool) (p : Place) → p ≡ cond a Registers (cond b Window Nowhere) → (p ≡ Registers → a ≡ true) × (p ≡ Window → b ≡ true)
+placed true b p e = (λ h. refl, λ h. cc)
+placed false true p e = (λ h. cc, λ h. refl)
+placed false false p e = (λ h. cc, λ h. cc)
+
+module _ (base size a n : ℕ) where
+  -- the place that is found is the one that the address names
+  pub named : (p q : Place) → p ≡ placeOf base size a n → p ≡ q → placeOf base size a n ≡ q
+  named p q e g = sym e ∙ g
+
+  abbrev inWindow : Bool
+  inWindow = leb base a && leb (a + n) (base + size)
+
+  pub within-registers : placeOf base size a n ≡ Registers → a + n ≤ 136
+  unfolding placeOf
+  within-registers e = leb-true (a + n) 136 (placed (leb (a + n) 136) inWindow _ refl .0 e)
+
+  pub within-window : placeOf base size a n ≡ Window → (base ≤ a) × (a + n ≤ base + size)
+  unfolding placeOf
+  within-window e =
+      let b = and-both (leb base a) (leb (a + n) (base + size)) (placed (leb (a + n) 136) inWindow _ refl .1 e) in
+      (leb-true base a (b .0), leb-true (a + n) (base + size) (b .1))
+
+-- ---- a part that is read
+
+-- its byte j: under a trap the slot's, elsewhere the part's
+abbrev pub partAt : ℕ → List ℕ → List ℕ → List ℕ → ℕ → ℕ → ℕ
+partAt w sites plain part at j =
+    cond (covered w sites (at + j)) (getD plain (slotOf w sites (at + j) * w + (at + j) % w) 0) (getD part j 0)
+
+module _ (w : ℕ) (sites plain part : List ℕ) (at j k : ℕ) (q : k ≡ slotOf w sites (at + j)) where
+  pub part-under : k < length sites → getD plain (k * w + (at + j) % w) 0 ≡ partAt w sites plain part at j
+  part-under h = rw (is-covered w sites (at + j) k q h, ← q)
+
+  pub part-free : length sites ≤ k → getD part j 0 ≡ partAt w sites plain part at j
+  part-free h = rw (not-covered w sites (at + j) k q h)
+
+-- past every site no trap stands, so one offset there reads as any other
+module _ (w : ℕ) (pos : 0 < w) (sites : List ℕ) (end : ℕ) (small : (k : ℕ) → getD sites k 0 < end) where
+  past-sites : (i : ℕ) → end + w ≤ i + 1 → covered w sites i ≡ false
+  past-sites i h = bare-by w sites i (λ j l e. omega (arith, small j, site-place w i, mod-lt i pos))
+
+  pub part-past : (plain part : List ℕ) (at to m : ℕ) → end + w ≤ at + 1 → end + w ≤ to + 1
+      → partRead w sites plain part at m ≡ partRead w sites plain part to m
+  unfolding partRead
+  part-past plain part at to m h g =
+      tab-ext m _ _ (λ j l. rw (past-sites (at + j) (omega arith), past-sites (to + j) (omega arith)))
+
+-- of a part of the window it is the plain byte
+part-window : (w : ℕ) (sites plain mem : List ℕ) (at n m : ℕ) → at + n ≤ length mem
+    → partRead w sites plain (take n (drop at mem)) at m ≡ readOf w sites plain mem at n m
+unfolding partRead readOf plainAt
+part-window w sites plain mem at n m h =
+    rw (length-take-le n (drop at mem) (simp length-drop (omega arith))) (tab-ext m _ _ (λ j l. by j (ltb j n) refl))
+  where
+    by : (j : ℕ) (b : Bool) → ltb j n ≡ b
+        → cond b (partAt w sites plain (take n (drop at mem)) at j) 0 ≡ cond b (plainAt w sites plain mem (at + j)) 0
+    by j true e = rw (getD-take n (drop at mem) j 0 (ltb-true j n e), getD-drop at mem j 0)
+    by j false e = refl
+
+-- free slots cover nothing
+free-slots : (w : ℕ) → 2 ≤ w → (k i : ℕ) → covered w (replicate k noSite) i ≡ false
+free-slots w h k i =
+    bare-by w (replicate k noSite) i
+    (λ j l e. no-site-free w h i (sym e ∙ getD-replicate k j noSite 0 (rw length-replicate at l)))
+
+-- of a part of a block it is the register area's byte
+part-block : (plain regs : List ℕ) (from a n : ℕ) → a + n ≤ 136 → from + 136 ≤ length regs
+    → partRead 2 (replicate 8 noSite) plain (take n (drop a (take 136 (drop from regs)))) 0 9 ≡ bytesAt regs (from + a) n 9
+unfolding partRead bytesAt
+part-block plain regs from a n h g =
+    rw (length-take-le n (drop a block) (simp (length-drop, length-take) (omega arith))) (tab-ext 9 _ _ (λ j l. by j (ltb j n) refl))
+  where
+    block : List ℕ
+    block = take 136 (drop from regs)
+
+    by : (j : ℕ) (b : Bool) → ltb j n ≡ b
+        → cond b (partAt 2 (replicate 8 noSite) plain (take n (drop a block)) 0 j) 0 ≡ cond b (getD regs (from + a + j) 0) 0
+    by j true e =
+        let k : j < n = ltb-true j n e in
+        let z : from + (a + j) ≡ from + a + j = omega arith in
+        rw (free-slots 2 (omega arith) 8 (0 + j), getD-take n (drop a block) j 0 k, getD-drop a block j 0)
+        (getD-take 136 (drop from regs) (a + j) 0 (omega arith) ∙ rw (getD-drop from regs (a + j) 0, z))
+    by j false e = refl
+
+-- what is read of the stretch that an address names
+module _ (mem : List ℕ) (base a n : ℕ) (part : List ℕ) where
+  pub read-block : (plain regs : List ℕ) (from : ℕ) → a + n ≤ 136 → from + 136 ≤ length regs
+      → part ≡ stretchOf (placeOf base (length mem) a n) (take (from + 136 - from) (drop from regs)) mem base a n
+      → partRead 2 (replicate 8 noSite) plain part 0 9 ≡ bytesAt regs (from + a) n 9
+  unfolding stretchOf
+  read-block plain regs from h g f =
+      rw (f, place-registers base (length mem) a n h, add-sub-cancel-left from 136) (part-block plain regs from a n h g)
+
+  pub read-window : (sites plain block : List ℕ) → placeOf base (length mem) a n ≡ Window
+      → part ≡ stretchOf (placeOf base (length mem) a n) block mem base a n
+      → partRead 2 sites plain part (a - base) 9 ≡ readOf 2 sites plain mem (a - base) n 9
+  unfolding stretchOf
+  read-window sites plain block q f =
+      let h = within-window base (length mem) a n q in
+      rw (f, q) (part-window 2 sites plain mem (a - base) n 9 (omega arith))
+
+-- ---- bytes that are put in a part's place
+
+-- bytes in the place of as many of a list are written over it
+pub put-over : (l : List ℕ) (at : ℕ) (bytes : List ℕ) → at + length bytes ≤ length l
+    → take at l ++ (bytes ++ drop (length bytes) (drop at l)) ≡ overwritten l at bytes
+unfolding overwritten writtenAt
+put-over l at bytes h =
+    tab-is put (length l) _ 0 (simp (length-append, length-take, length-drop) (omega arith))
+    (λ i g. on-less i at (before i) (λ b. on-less i (at + length bytes) (within i b) (after i b)))
+  where
+    rest : List ℕ
+    rest = drop (length bytes) (drop at l)
+
+    put : List ℕ
+    put = take at l ++ (bytes ++ rest)
+
+    Right : ℕ → Type 0
+    Right i = getD put i 0 ≡ cond (leb at i && ltb i (at + length bytes)) (getD bytes (i - at) 0) (getD l i 0)
+
+    front : length (take at l) ≡ at
+    front = length-take-le at l (omega arith)
+
+    before : (i : ℕ) → i < at → Right i
+    before i b = rw (lt-leb at i b) (List·getD-append (take at l) (bytes ++ rest) 0 i (rw front b) ∙ getD-take at l i 0 b)
+
+    past : (i : ℕ) → at ≤ i → getD put i 0 ≡ getD (bytes ++ rest) (i - at) 0
+    past i b =
+        let e : length (take at l) + (i - at) ≡ i = omega (arith, front) in
+        rw e at (getD-append-add (take at l) (bytes ++ rest) (i - at) 0)
+
+    within : (i : ℕ) → at ≤ i → i < at + length bytes → Right i
+    within i b g =
+        rw (le-leb at i b, lt-ltb i (at + length bytes) g) (past i b ∙ List·getD-append bytes rest 0 (i - at) (omega arith))
+
+    after : (i : ℕ) → at ≤ i → at + length bytes ≤ i → Right i
+    after i b g =
+        let m = i - at - length bytes in
+        let e : length bytes + m ≡ i - at = omega arith in
+        let f : at + (i - at) ≡ i = omega arith in
+        let q = getD-append-add bytes rest m 0 ∙ getD-drop (length bytes) (drop at l) m 0 ∙ getD-drop at l (length bytes + m) 0 in
+        rw (le-leb at i b, le-ltb i (at + length bytes) g) (past i b ∙ rw (e, f) at q)
+
+-- the same by a copy into the part of the list
+pub put-copied : (l bytes part : List ℕ) (at : ℕ) → at + length bytes ≤ length l
+    → let old = take (at + length bytes - at) (drop at l) in
+    part ≡ paste old 0 bytes (min (length old) (length bytes))
+    → take at l ++ (part ++ drop (at + length bytes - at) (drop at l)) ≡ overwritten l at bytes
+put-copied l bytes part at h e =
+    let k : at + length bytes - at ≡ length bytes = omega arith in
+    let z : length (take (at + length bytes - at) (drop at l)) ≡ length bytes = simp (length-take, length-drop) (omega arith) in
+    let q : part ≡ bytes = e ∙ copy-whole (take (at + length bytes - at) (drop at l)) bytes z in
+    rw (q, k) (put-over l at bytes h)

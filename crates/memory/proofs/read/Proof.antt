@@ -1,0 +1,125 @@
+-- `memory::read` meets its contract. The loop's invariant: the first j bytes are the part's, those under traps plain,
+-- the others zeros. Assumes nothing.
+use mathlib.Core.Path.{_≡_, refl, ap, _∙_}
+use mathlib.Core.Logic.{⊎-elim}
+use Prim.Native.Nat.{_-_, _≤_}
+use native.Mathlib.Nat.{mul-comm}
+use native.Mathlib.Omega.{arith}
+use borrow.Author.Needs.{needs}
+use denote.Ref.{now}
+use lib.ListN.{length, length-set}
+use Rattle.common.specs.Tab.{tab}
+use Rattle.memory.specs.Write.{partRead}
+use Rattle.memory.proofs.Laws.{upTo, up-more, up-all}
+use Rattle.memory.proofs.Parts.{partAt, part-under, part-free}
+use Rattle.memory.proofs.read.Statement.{statement}
+use Rattle.memory.proofs.read.Tie as tie
+
+abbrev Inv-loop : tie.InvT-loop
+Inv-loop part sites plain at all kept from out₀ j₀ out j =
+    (j ≤ 9) × (j ≤ length part) × (from ≤ 4294967297) × (length sites ≡ 8) × (length plain ≡ 16) × (length out ≡ 9)
+    × (out ≡ upTo (partAt 2 sites plain part from) j 9)
+
+abbrev μ-loop : tie.MeasureT-loop
+μ-loop part sites plain at all kept from out₀ j₀ out j = 9 - j
+
+near-requires : tie.Need-near-requires Inv-loop μ-loop
+near-requires c κs = search needs
+
+loop-holds : tie.Need-loop-holds Inv-loop μ-loop
+unfolding tab
+loop-holds c = (omega arith, omega arith, c .near .ensures .0, search needs, search needs, refl, refl)
+
+returns : tie.Need-returns Inv-loop μ-loop
+unfolding partRead
+returns c =
+    let l = c .before .before in
+    rw (← l .before .near .ensures .1 _ _, ← c .if1 .taken) (l .loop .inv .6)
+
+add-i : tie.Need-add-i Inv-loop μ-loop
+add-i c = omega arith
+
+slot-of-requires : tie.Need-slot-of-requires Inv-loop μ-loop
+slot-of-requires c κs = search needs
+
+mul-out : tie.Need-mul-out Inv-loop μ-loop
+mul-out c = omega arith
+
+add-out : tie.Need-add-out Inv-loop μ-loop
+add-out c = omega arith
+
+shared-slice-read-out : tie.Need-shared-slice-read-out Inv-loop μ-loop
+shared-slice-read-out c = omega arith
+
+array-write-out : tie.Need-array-write-out Inv-loop μ-loop
+array-write-out c = omega arith
+
+shared-slice-read-out-2 : tie.Need-shared-slice-read-out-2 Inv-loop μ-loop
+shared-slice-read-out-2 c = omega arith
+
+array-write-out-2 : tie.Need-array-write-out-2 Inv-loop μ-loop
+array-write-out-2 c = omega arith
+
+add-j : tie.Need-add-j Inv-loop μ-loop
+add-j c = omega arith
+
+loop-less : tie.Need-loop-less Inv-loop μ-loop
+loop-less c = omega arith
+
+loop-again : tie.Need-loop-again Inv-loop μ-loop
+loop-again c =
+    let l = c .before .before .before .before in
+    let o = l .loop in
+    let i = o .inv in
+    let a = l .before .before .before .before .before .args in
+    let f = l .before .near .result in
+    let k = c .before .slot-of .result in
+    let q = c .before .slot-of .ensures in
+    ⊎-elim
+    (λ w. (
+      omega arith,
+      omega arith,
+      i .2,
+      i .3,
+      i .4,
+      ap length (w .2) ∙ simp length-set (i .5),
+      w .2 ∙ rw (i .6, mul-comm 2 k, part-under 2 (now (a .sites)) (now (a .plain)) (now (a .part)) f (o .j) k q (omega arith)) (up-more _ _ 9),
+    ))
+    (λ w. (
+      omega arith,
+      omega arith,
+      i .2,
+      i .3,
+      i .4,
+      ap length (w .2) ∙ simp length-set (i .5),
+      w .2 ∙ rw (i .6, part-free 2 (now (a .sites)) (now (a .plain)) (now (a .part)) f (o .j) k q (omega arith)) (up-more _ _ 9),
+    ))
+    (c .if2 .came)
+
+returns-2 : tie.Need-returns-2 Inv-loop μ-loop
+unfolding partRead
+returns-2 c =
+    let o = c .before .loop .inv in
+    rw (← c .before .before .near .ensures .1 _ _) (o .6 ∙ up-all _ _ 9 _ (omega arith) (omega arith))
+
+pub read-spec : {M : Type 1} → statement M
+read-spec =
+    tie.close
+    (tie.spec
+    Inv-loop
+    μ-loop
+    near-requires
+    loop-holds
+    returns
+    add-i
+    slot-of-requires
+    mul-out
+    add-out
+    shared-slice-read-out
+    array-write-out
+    shared-slice-read-out-2
+    array-write-out-2
+    add-j
+    loop-less
+    loop-again
+    returns-2)

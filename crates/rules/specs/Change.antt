@@ -1,0 +1,38 @@
+-- What an accepted request changes in the record.
+use Prim.Native.Nat.{ℕ}
+use mathlib.Core.List.{List, [], _∷_}
+use lib.ListN.{set}
+use Rattle.condition.specs.Add.{addOf}
+use Rattle.target.specs.Free.{firstFree}
+use Rattle.target.specs.Fresh.{freshEntry, closedDraft}
+use Rattle.target.specs.declared.Entry.{Entry}
+use Rattle.target.specs.declared.Target.{Target}
+use Rattle.rules.specs.declared.Change.{Change}
+use Rattle.rules.specs.declared.Change.the-variants.{Same, Plain, Current, State, Begin, Add, Drop, Plant, Remove, Start}
+use Rattle.rules.specs.Record.{ready, withTable, withCurrent, withDraft, withEntries, setState}
+use Rattle.rules.specs.Breakpoint.{entryWith}
+use Rattle.rules.specs.Condition.{begun}
+use Rattle.rules.specs.Request.{withPlains}
+
+-- the record without the breakpoint at an index
+abbrev pub without : Target → ℕ → Target
+without t k = withEntries t (set (t .table .entries) k freshEntry)
+
+-- the record after a change; plain is the slots' plain bytes
+unfoldable pub applied : Target → Change → List ℕ → Target
+applied t Same plain = t
+applied t Plain plain = withEntries t (withPlains (t .table .entries) plain)
+applied t (Current pid) plain = withCurrent t 1 pid
+applied t (State i state wanted) plain = setState t i state wanted
+applied t (Begin id) plain = withDraft t (begun id)
+applied t (Add letter value) plain = withDraft t (addOf (t .table .draft) (record { letter = letter; value = value }) .draft)
+applied t Drop plain = withDraft t closedDraft
+applied t (Plant site b0 b1) plain =
+    let es = t .table .entries in
+    withTable t
+    (record {
+      entries = set es (firstFree es) (entryWith (t .table .draft) site (b0 ∷ b1 ∷ []));
+      draft = closedDraft;
+    })
+applied t (Remove k) plain = without t k
+applied t (Start i k) plain = without (setState t i ready 0) k
