@@ -1,25 +1,41 @@
-// The steps of the debug stub. Each is one call over a record by value and lent buffers of any size; each refuses bad input itself.
-use request::Parsed;
+// The steps of the debug stub. Each is one call over a record by value and lent buffers of any size; each refuses bad input itself, and gives back
+// the record afterwards.
 use rules::Answer;
 use rules::Done;
-use rules::Served;
+use steps::Effect;
 use target::Process;
 use target::Table;
 use target::Target;
 use text::Reason;
 use wire::Message;
 ghost use mathlib.Core.Path.{_≡_};
-ghost use mathlib.Core.Bool.{_&&_};
 ghost use mathlib.Core.List.{List, []};
-ghost use Prim.Native.Nat.{ℕ, _+_, _*_, _<_, _≤_};
-ghost use lib.Dec.{eqb};
-ghost use lib.ListN.{length};
-ghost use Rattle.rules.specs.Change.{applied};
+ghost use Prim.Native.Nat.{ℕ, _≤_};
 ghost use Rattle.rules.specs.Outcome.{world, outcome};
-ghost use Rattle.rules.specs.Record.{saved, pcOf, stopWith};
 ghost use Rattle.rules.specs.Event.{restart as restartRule};
 ghost use Rattle.rules.specs.Step.{setupTarget, setupOf, requestOf, trapOf, scheduleOf, stateOf, restartOf};
 ghost use Rattle.rules.specs.declared.Answer.the-variants as answer;
+ghost use Rattle.steps.specs.Effect.{afterOf};
+
+// Makes the change of a step.
+fn finish(t: Target, d: Effect) -> Done
+    ensures { λ r. ⌜ r ≡ record { number = d .number; answer = d .answer; target = afterOf t d } ⌝ }
+{
+    let number = d.number;
+    let answer = d.answer;
+    let change = d.change;
+    let plain = d.plain;
+    let after = if d.changed {
+        change::apply(t, change, plain)
+    } else {
+        t
+    };
+    Done {
+        number,
+        answer,
+        target: after,
+    }
+}
 
 // A step that is refused: the record as it was.
 fn refused(number: u8, t: Target) -> Done
@@ -30,15 +46,6 @@ fn refused(number: u8, t: Target) -> Done
         answer: Answer::Nothing,
         target: t,
     }
-}
-
-// Memory is M bytes, and there are 136 register bytes for each process.
-fn sizes_right(t: Target, mem: usize, regs: usize) -> bool
-    ensures { λ r. ⌜ r ≡ (eqb mem (t .size) && eqb regs (136 * t .count)) ⌝ }
-{
-    let size = t.size as usize;
-    let blocks = 136 * t.count as u64;
-    mem == size && regs as u64 == blocks
 }
 
 // The record of an accepted setup.
@@ -99,202 +106,42 @@ pub fn setup(
     if !fit::processes_fit(ps, count) {
         return refused(1, empty);
     }
-    if !sizes_right(t, mem.len(), regs.len()) {
+    if !steps::sizes_right(t, mem.len(), regs.len()) {
         return refused(2, empty);
     }
     refused(0, t)
-}
-
-// An accepted step with a reply of ten bytes.
-fn reply_with(after: Target, bytes: [u8; 10], reply: &mut [u8]) -> Done
-    requires { ⌜ length (now reply) ≡ 10 ⌝ }
-    ensures { λ r. ⌜ (r ≡ record { number = 0; answer = answer.Nothing; target = after }) × (now (reply .exit) ≡ bytes) ⌝ }
-{
-    common::copy(reply, &bytes);
-    refused(0, after)
-}
-
-// An accepted request: its change of the record is made, and its ten bytes are the reply.
-fn accepted(t: Target, done: Served, reply: &mut [u8]) -> Done
-    requires { ⌜ length (now reply) ≡ 10 ⌝ }
-    ensures { λ r. ⌜ (r ≡ record { number = 0; answer = answer.Nothing; target = applied t (done .change) (done .plain) }) × (now (reply .exit) ≡ done .bytes) ⌝ }
-{
-    let change = done.change;
-    let plain = done.plain;
-    let bytes = done.bytes;
-    let after = change::apply(t, change, plain);
-    reply_with(after, bytes, reply)
 }
 
 // A request of ten bytes, answered in ten.
 pub fn request(t: Target, mem: &mut [u8], regs: &mut [u8], bytes: &[u8], reply: &mut [u8]) -> Done
     ensures { λ r. ⌜ outcome (r .number) (r .answer) (world (r .target) (now (mem .exit)) (now (regs .exit))) (now (reply .exit)) ≡ requestOf (world t (now (mem .entry)) (now (regs .entry))) (now (bytes .entry)) (now (reply .entry)) ⌝ }
 {
-    if !sizes_right(t, mem.len(), regs.len()) {
-        return refused(2, t);
-    }
-    if bytes.len() != 10 {
-        return refused(2, t);
-    }
-    if reply.len() != 10 {
-        return refused(2, t);
-    }
-    let s = fit::check(t, mem);
-    if !s.fit {
-        return refused(3, t);
-    }
-    let asked = request::parse(bytes);
-    match asked {
-        Parsed::Request(m) => {
-            let done = serve::serve(t, s, mem, regs, m);
-            accepted(t, done, reply)
-        }
-        Parsed::Refused(reason) => {
-            let done = serve::refuse(bytes, reason);
-            accepted(t, done, reply)
-        }
-        Parsed::NotTen => refused(2, t),
-    }
-}
-
-// Saves the registers of the process at an index.
-fn save(regs: &mut [u8], i: usize, block: &[u8])
-    requires { ⌜ (136 * i + 136 ≤ length (now regs)) × (length (now block) ≡ 136) ⌝ }
-    ensures { λ _. ⌜ now (regs .exit) ≡ saved (now (regs .entry)) i (now (block .entry)) ⌝ }
-{
-    let from = 136 * i;
-    let end = from + block.len();
-    common::copy(&mut regs[from..end], block);
-}
-
-// The pc of a block.
-fn pc_of(block: &[u8]) -> u32
-    requires { ⌜ length (now block) ≡ 136 ⌝ }
-    ensures { λ r. ⌜ r ≡ pcOf (now (block .entry)) ⌝ }
-{
-    common::word(block[132], block[133], block[134], block[135])
-}
-
-// Saves a block, and makes its process Stopped with no stop wanted.
-fn stop_with(t: Target, regs: &mut [u8], i: usize, block: &[u8]) -> Target
-    requires { ⌜ (i < 4) × (136 * i + 136 ≤ length (now regs)) × (length (now block) ≡ 136) ⌝ }
-    ensures { λ r. ⌜ ((mem : List ℕ) → world r mem (now (regs .exit)) ≡ stopWith (world t mem (now (regs .entry))) i (now (block .entry))) ⌝ }
-{
-    save(regs, i, block);
-    change::set_state(t, i, 8, 0)
+    let d = steps::request_step(t, mem, regs, bytes, reply);
+    finish(t, d)
 }
 
 // A process ran into a trap, with these registers.
 pub fn trap(t: Target, mem: &[u8], regs: &mut [u8], pid: u32, block: &[u8]) -> Done
     ensures { λ r. ⌜ outcome (r .number) (r .answer) (world (r .target) (now (mem .entry)) (now (regs .exit))) [] ≡ trapOf (world t (now (mem .entry)) (now (regs .entry))) pid (now (block .entry)) ⌝ }
 {
-    if !sizes_right(t, mem.len(), regs.len()) {
-        return refused(2, t);
-    }
-    if block.len() != 136 {
-        return refused(2, t);
-    }
-    let s = fit::check(t, mem);
-    if !s.fit {
-        return refused(3, t);
-    }
-    let ps = t.processes;
-    let n = t.count as usize;
-    let i = fit::process_of(ps, t.count, pid);
-    if n <= i {
-        return refused(4, t);
-    }
-    let p = ps[i];
-    if p.state == 8 {
-        return refused(5, t);
-    }
-    let pc = pc_of(block);
-    let k = breaks::breakpoint_at(t, s, mem, regs, pc);
-    if 8 <= k {
-        return refused(6, t);
-    }
-    let table = t.table;
-    let e = table.entries[k];
-    let elements = e.elements;
-    let sites = s.sites;
-    let plain = s.plain;
-    if condition::evaluate(mem, t.base, &sites, &plain, pid, elements, e.count) {
-        let after = stop_with(t, regs, i, block);
-        return Done {
-            number: 0,
-            answer: Answer::Stop(e.id),
-            target: after,
-        };
-    }
-    Done {
-        number: 0,
-        answer: Answer::Pass(e.plain[0], e.plain[1]),
-        target: t,
-    }
+    let d = steps::trap_step(t, mem, regs, pid, block);
+    finish(t, d)
 }
 
 // The kernel is about to run a process, with these registers: is it to stop?
 pub fn schedule(t: Target, mem: &[u8], regs: &mut [u8], pid: u32, block: &[u8]) -> Done
     ensures { λ r. ⌜ outcome (r .number) (r .answer) (world (r .target) (now (mem .entry)) (now (regs .exit))) [] ≡ scheduleOf (world t (now (mem .entry)) (now (regs .entry))) pid (now (block .entry)) ⌝ }
 {
-    if !sizes_right(t, mem.len(), regs.len()) {
-        return refused(2, t);
-    }
-    if block.len() != 136 {
-        return refused(2, t);
-    }
-    let s = fit::check(t, mem);
-    if !s.fit {
-        return refused(3, t);
-    }
-    let ps = t.processes;
-    let n = t.count as usize;
-    let i = fit::process_of(ps, t.count, pid);
-    if n <= i {
-        return refused(4, t);
-    }
-    let p = ps[i];
-    if p.wanted == 0 {
-        return Done {
-            number: 0,
-            answer: Answer::No,
-            target: t,
-        };
-    }
-    let after = stop_with(t, regs, i, block);
-    Done {
-        number: 0,
-        answer: Answer::Yes,
-        target: after,
-    }
+    let d = steps::schedule_step(t, mem, regs, pid, block);
+    finish(t, d)
 }
 
 // The kernel gives a process another state.
 pub fn state(t: Target, mem: &[u8], regs: &[u8], pid: u32, value: u8) -> Done
     ensures { λ r. ⌜ outcome (r .number) (r .answer) (world (r .target) (now (mem .entry)) (now (regs .entry))) [] ≡ stateOf (world t (now (mem .entry)) (now (regs .entry))) pid value ⌝ }
 {
-    if !sizes_right(t, mem.len(), regs.len()) {
-        return refused(2, t);
-    }
-    let s = fit::check(t, mem);
-    if !s.fit {
-        return refused(3, t);
-    }
-    let ps = t.processes;
-    let n = t.count as usize;
-    let i = fit::process_of(ps, t.count, pid);
-    if n <= i {
-        return refused(4, t);
-    }
-    let p = ps[i];
-    if p.state == 8 {
-        return refused(5, t);
-    }
-    if value == 8 {
-        return refused(5, t);
-    }
-    let after = change::set_state(t, i, value, p.wanted);
-    refused(0, after)
+    let d = steps::state_step(t, mem, regs, pid, value);
+    finish(t, d)
 }
 
 // The record after a restart: no breakpoint, nothing in hand, none current, no mark, nobody Stopped.
@@ -327,7 +174,7 @@ fn restarted(t: Target) -> Target
 pub fn restart(t: Target, mem: &mut [u8], regs: &[u8], reply: &mut [u8]) -> Done
     ensures { λ r. ⌜ outcome (r .number) (r .answer) (world (r .target) (now (mem .exit)) (now (regs .entry))) (now (reply .exit)) ≡ restartOf (world t (now (mem .entry)) (now (regs .entry))) (now (reply .entry)) ⌝ }
 {
-    if !sizes_right(t, mem.len(), regs.len()) {
+    if !steps::sizes_right(t, mem.len(), regs.len()) {
         return refused(2, t);
     }
     if reply.len() != 10 {
@@ -344,5 +191,6 @@ pub fn restart(t: Target, mem: &mut [u8], regs: &[u8], reply: &mut [u8]) -> Done
     let bytes = wire::bytes_of(Message::Rerr {
         reason: Reason::Reset,
     });
-    reply_with(after, bytes, reply)
+    steps::write_reply(bytes, reply);
+    refused(0, after)
 }

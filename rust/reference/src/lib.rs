@@ -3,9 +3,11 @@
 //! It is written from the papers alone and shares nothing with the product. The stub lives in a
 //! [`Stub`]; memory and the register area are lent to every step. A step is refused by a
 //! [`Refusal`], whose [`number`](Refusal::number) is that of 01's table; number 0 is `Ok`.
+//! A [`Book`] is the book of demand 3, kept beside a stub and knowing nothing of it.
 
 #![forbid(unsafe_code)]
 
+mod book;
 mod condition;
 mod event;
 mod list;
@@ -15,6 +17,7 @@ mod record;
 mod request;
 mod window;
 
+pub use book::{Book, Claim, Condition, Evaluation, Planted};
 pub use condition::{depth, Element, Elements};
 pub use event::Verdict;
 pub use list::List;

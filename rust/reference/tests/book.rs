@@ -1,141 +1,58 @@
-//! The book of demand 3, kept beside the program over steps of the binary `steps`: it is fed the
-//! steps, their numbers and answers, and knows plain memory, breakpoints and Stopped processes.
+//! The book of demand 3, kept beside the program over steps of the binary `steps`, and what it
+//! says of answers that are wrong.
 
 mod common;
 
-use reference::{body_length, fit, Element, Session};
-use std::collections::BTreeMap;
+use common::*;
+use reference::{
+    body_length, fit, Book, Claim, Element, Evaluation, Session, Stub, Verdict, BLOCK,
+};
 use std::process::Command;
-
-#[derive(Clone)]
-struct Point {
-    site: u32,
-    list: Vec<(u8, u32)>,
-}
-
-struct Book {
-    plain: Vec<u8>,
-    draft: Option<(u32, Vec<(u8, u32)>)>,
-    points: BTreeMap<u32, Point>,
-    stopped: [bool; 2],
-}
 
 fn word(bytes: &[u8]) -> u32 {
     u32::from_be_bytes(bytes[..4].try_into().unwrap())
 }
 
-fn index(pid: u32) -> usize {
-    usize::from(pid == 7)
+fn worked_book() -> Book {
+    let s = Session::worked();
+    Book::new(B, &[5, 7], &s.memory)
 }
 
-impl Book {
-    fn new() -> Self {
-        let plain = (0..64).collect();
-        Self { plain, draft: None, points: BTreeMap::new(), stopped: [false; 2] }
+/// Feeds a step that got number 0; `registers` are those lent to it.
+fn feed(book: &mut Book, kind: u8, body: &[u8], answer: &[u8], registers: &[u8]) -> Claim {
+    let pid = if body.len() < 4 { 0 } else { word(body) };
+    let block = || <&[u8; BLOCK]>::try_from(&body[4..]).unwrap();
+    match (kind, answer) {
+        (1, _) => book.request(body.try_into().unwrap(), registers, answer.try_into().unwrap())?,
+        (2, &[1, id]) => book.trap(pid, block(), Verdict::Stop(id))?,
+        (2, &[2, a, b]) => book.trap(pid, block(), Verdict::Pass([a, b]))?,
+        (3, &[yes]) => book.schedule(pid, yes == 1),
+        (4, &[]) => {}
+        (5, _) => book.restart(),
+        _ => return Err("an answer of another form"),
     }
+    Ok(())
+}
 
-    /// Plain memory with the book's traps on it.
-    fn memory(&self) -> Vec<u8> {
-        let mut memory = self.plain.clone();
-        for point in self.points.values() {
-            let at = (point.site - 4_096) as usize;
-            memory[at..at + 2].copy_from_slice(&[0x02, 0x90]);
-        }
-        memory
+/// What the record has, the book has.
+fn check_record(stub: &Stub, book: &Book) {
+    let sent = |list: &[(u8, u32)]| -> Vec<Element> {
+        list.iter().map(|&(letter, val)| Element::of(letter, val).unwrap()).collect()
+    };
+    assert_eq!(stub.table.iter().flatten().count(), book.planted().len());
+    for one in book.planted() {
+        let entry = stub.at_site(one.site).unwrap();
+        assert_eq!(u32::from(entry.id), one.condition.id);
+        assert_eq!(entry.elements[..], sent(&one.condition.elements));
     }
-
-    /// The condition over plain memory; `None` where a `*` is outside.
-    fn value(&self, list: &[(u8, u32)], pid: u32) -> Option<u32> {
-        let mut stack = vec![1u32];
-        for &(letter, val) in list {
-            let top = *stack.last().unwrap();
-            let under = stack.len().checked_sub(2).map_or(0, |i| stack[i]);
-            let value = match letter {
-                b'k' => u32::from(val == pid),
-                b'p' => val,
-                b'*' => {
-                    let at = i64::from(top) - 4_096;
-                    if !(0..=60).contains(&at) {
-                        return None;
-                    }
-                    u32::from_le_bytes(self.plain[at as usize..at as usize + 4].try_into().unwrap())
-                }
-                b'&' => top & under,
-                b'=' => u32::from(top == under),
-                b'!' => u32::from(top != under),
-                b'a' => u32::from(top > 0 && under > 0),
-                _ => u32::from(top > 0 || under > 0),
-            };
-            let takes = match letter {
-                b'k' | b'p' => 0,
-                b'*' => 1,
-                _ => 2,
-            };
-            stack.truncate(stack.len() - takes);
-            stack.push(value);
-        }
-        assert_eq!(stack.len(), 1);
-        Some(stack[0])
+    for process in stub.processes.iter() {
+        assert_eq!(process.state == 8, book.stopped().contains(&process.pid));
     }
-
-    /// An accepted request; `registers` are those lent to it.
-    fn request(&mut self, body: &[u8], answer: &[u8], registers: &[u8]) {
-        let (number, n) = (word(&body[1..]), usize::from(body[5]));
-        let at = number.wrapping_sub(4_096) as usize;
-        match answer[0] {
-            3 if n > 0 && number >= 4_096 => {
-                assert_eq!(answer[1..1 + n], self.plain[at..at + n]);
-                assert!(answer[1 + n..].iter().all(|&byte| byte == 0));
-            }
-            5 if n > 0 && number >= 4_096 => {
-                self.plain[at..at + n].copy_from_slice(&body[6..6 + n]);
-            }
-            15 if self.stopped[index(number)] => {
-                self.stopped[index(number)] = false;
-                let pc = word(&registers[136 * index(number) + 132..]);
-                self.points.retain(|_, point| point.site != pc);
-            }
-            17 => self.operation(body[5], number),
-            _ => {}
-        }
-    }
-
-    fn operation(&mut self, letter: u8, val: u32) {
-        match letter {
-            b'n' => self.draft = Some((val, vec![])),
-            b'b' => {
-                let (id, list) = self.draft.take().unwrap();
-                assert!(self.points.insert(id, Point { site: val, list }).is_none());
-            }
-            b'd' => assert!(self.points.remove(&val).is_some()),
-            _ => self.draft.as_mut().unwrap().1.push((letter, val)),
-        }
-    }
-
-    /// An accepted trap answers by the book's breakpoints and plain memory.
-    fn trap(&mut self, body: &[u8], answer: &[u8]) {
-        let (pid, pc) = (word(body), word(&body[136..]));
-        let (id, point) = self.points.iter().find(|(_, point)| point.site == pc).unwrap();
-        if self.value(&point.list, pid) == Some(0) {
-            let at = (pc - 4_096) as usize;
-            assert_eq!(answer, [2, self.plain[at], self.plain[at + 1]]);
-        } else {
-            assert_eq!(answer, [1, *id as u8]);
-            self.stopped[index(pid)] = true;
-        }
-    }
-
-    fn step(&mut self, kind: u8, body: &[u8], answer: &[u8], registers: &[u8]) {
-        match kind {
-            1 => self.request(body, answer, registers),
-            2 => self.trap(body, answer),
-            3 if answer == [1] => self.stopped[index(word(body))] = true,
-            5 => {
-                self.points.clear();
-                self.stopped = [false; 2];
-            }
-            _ => {}
-        }
+    // The book keeps a draft that the stub dropped, so this goes one way.
+    if let Some(draft) = stub.draft {
+        let kept = book.draft().unwrap();
+        assert_eq!(u32::from(draft.id), kept.id);
+        assert_eq!(draft.elements[..], sent(&kept.elements));
     }
 }
 
@@ -149,7 +66,7 @@ fn check_refused(before: &Session, s: &Session, kind: u8, body: &[u8]) {
 }
 
 fn replay(steps: &[u8]) {
-    let (mut s, mut book, mut at) = (Session::worked(), Book::new(), 0);
+    let (mut s, mut book, mut at) = (Session::worked(), worked_book(), 0);
     while at < steps.len() {
         let (kind, start) = (steps[at], at + 1);
         at = start + body_length(kind).unwrap();
@@ -158,22 +75,13 @@ fn replay(steps: &[u8]) {
         let output = s.step(kind, body);
         if output[0] != 0 || (kind == 1 && output[1] == 1) {
             check_refused(&before, &s, kind, body);
-        } else {
-            book.step(kind, body, &output[1..], &before.registers);
+        }
+        if output[0] == 0 {
+            assert_eq!(feed(&mut book, kind, body, &output[1..], &before.registers), Ok(()));
         }
         assert!(fit(&s.stub, &s.memory));
-        assert_eq!(s.memory, book.memory());
-        assert_eq!(s.stub.table.iter().flatten().count(), book.points.len());
-        for (i, process) in s.stub.processes.iter().enumerate() {
-            assert_eq!(process.state == 8, book.stopped[i]);
-        }
-        // The book keeps a draft that the stub dropped, so this goes one way.
-        if let Some(draft) = s.stub.draft {
-            let (id, list) = book.draft.as_ref().unwrap();
-            assert_eq!(*id, u32::from(draft.id));
-            let same = list.iter().map(|&(letter, val)| Element::of(letter, val).unwrap());
-            assert!(same.eq(draft.elements.iter().copied()));
-        }
+        assert_eq!(book.lies_under(&s.memory), Ok(()));
+        check_record(&s.stub, &book);
     }
 }
 
@@ -202,4 +110,71 @@ fn steps_are_whole_and_the_same_each_time() {
         count += 1;
     }
     assert_eq!((count, at), (20_000, first.len()));
+}
+
+/// A book with a breakpoint of id 4 at 4,104 that stops 7 only.
+fn book_of_one() -> Book {
+    let mut book = worked_book();
+    for (letter, val) in [(b'n', 4), (b'k', 7), (b'a', 0), (b'b', 4_104)] {
+        assert_eq!(book.request(&cond(letter, val), &[], &reply(17, &[])), Ok(()));
+    }
+    book
+}
+
+#[test]
+fn the_book_refuses_wrong_answers() {
+    let book = book_of_one();
+    let ask = |request, answer| book.clone().request(&request, &[], &answer);
+    assert_eq!(ask(mget(4_104, 2), reply(3, &[8, 9])), Ok(()));
+    assert_eq!(ask(mget(4_104, 2), reply(3, &[2, 0x90])), Err("a read is not of plain memory"));
+    assert_eq!(ask(mget(4_104, 1), reply(3, &[8, 9])), Err("a read answers more than n bytes"));
+    let outside = Err("a stretch was served that is not in the window");
+    assert_eq!(ask(mget(4_159, 2), reply(3, &[])), outside);
+    assert_eq!(ask(mput(u32::MAX, &[1, 2]), reply(5, &[])), outside);
+    assert_eq!(ask(mput(135, &[1, 2]), reply(5, &[])), outside);
+    assert_eq!(ask(mget(4_104, 0), reply(5, &[])), Err("the reply is of another type"));
+    let over = Err("a breakpoint was set with no condition");
+    assert_eq!(ask(cond(b'b', 4_100), reply(17, &[])), over);
+
+    let trap = |pid, pc, verdict| book.clone().trap(pid, &block(0, pc), verdict);
+    let wrong = Err("a trap is not answered by its condition over plain memory");
+    assert_eq!(trap(7, 4_104, Verdict::Stop(4)), Ok(()));
+    assert_eq!(trap(7, 4_104, Verdict::Stop(3)), wrong);
+    assert_eq!(trap(5, 4_104, Verdict::Pass([8, 9])), Ok(()));
+    assert_eq!(trap(5, 4_104, Verdict::Pass([2, 0x90])), wrong);
+    assert_eq!(trap(5, 4_104, Verdict::Stop(4)), wrong);
+    assert_eq!(trap(5, 4_106, Verdict::Stop(4)), Err("a trap where no breakpoint is"));
+}
+
+#[test]
+fn the_book_lays_its_traps_over_plain_memory() {
+    let mut book = book_of_one();
+    let mut memory: Vec<u8> = (0..64).collect();
+    let broken = Err("memory is not plain memory with the traps laid over it");
+    assert_eq!(book.lies_under(&memory), broken);
+    memory[8..10].copy_from_slice(&[0x02, 0x90]);
+    assert_eq!(book.lies_under(&memory), Ok(()));
+    assert_eq!(book.lies_under(&memory[..63]), broken);
+    for at in 0..64 {
+        memory[at] ^= 1;
+        assert_eq!(book.lies_under(&memory), broken);
+        assert_eq!(book.under_trap(at), at == 8 || at == 9);
+        memory[at] ^= 1;
+    }
+    book.outside(63, 1);
+    assert_eq!(book.lies_under(&memory), broken);
+    memory[63] = 1;
+    assert_eq!(book.lies_under(&memory), Ok(()));
+}
+
+#[test]
+fn the_book_evaluates_up_to_the_first_read_outside() {
+    let mut book = worked_book();
+    for (letter, val) in [(b'n', 1), (b'*', 0), (b'p', 0), (b'a', 0), (b'b', 4_096)] {
+        assert_eq!(book.request(&cond(letter, val), &[], &reply(17, &[])), Ok(()));
+    }
+    let first = Evaluation { holds: true, outside: true, elements: &[(b'*', 0)] };
+    assert_eq!(book.evaluated(5, 4_096), Some(first));
+    assert_eq!(book.trap(5, &block(0, 4_096), Verdict::Stop(1)), Ok(()));
+    assert_eq!(book.stopped(), [5]);
 }

@@ -6,7 +6,8 @@ use borrow.Author.Tests.{eq-eqb, ne-eqb}
 use denote.Ref.{now}
 use Rattle.rules.specs.Outcome.{World, world}
 use Rattle.rules.specs.Step.{restartOf}
-use Rattle.stub.proofs.Laws.{refuses, wrong-size, wrong-rest, unfit, Begun, ready-by, few, taken, accepts, restart-as}
+use Rattle.steps.proofs.Laws.{wrong-size, wrong-rest, unfit, Begun, ready-by, few, taken}
+use Rattle.stub.proofs.Laws.{refuses-whole, restart-as}
 use Rattle.stub.proofs.restart.Statement.{statement}
 use Rattle.stub.proofs.restart.Tie as tie
 
@@ -34,14 +35,14 @@ returns : tie.Need-returns
 unfolding restartOf
 returns c =
     let z = c .before in
-    refuses _ _ 2 _ (c .refused .ensures) ∙ wrong-size _ _ _ _ _ (z .before .sizes-right .ensures) (z .if1 .taken)
+    refuses-whole _ _ 2 _ (c .refused .ensures) ∙ wrong-size _ _ _ _ _ (z .before .sizes-right .ensures) (z .if1 .taken)
 
 refused-requires-2 : tie.Need-refused-requires-2
 refused-requires-2 c κs = search needs
 
 returns-2 : tie.Need-returns-2
 unfolding restartOf
-returns-2 c = refuses _ _ 2 _ (c .refused2 .ensures) ∙ wrong-rest _ _ _ _ (ne-eqb _ 10 (c .before .if2 .taken))
+returns-2 c = refuses-whole _ _ 2 _ (c .refused2 .ensures) ∙ wrong-rest _ _ _ _ (ne-eqb _ 10 (c .before .if2 .taken))
 
 check-requires : tie.Need-check-requires
 check-requires c κs = search needs
@@ -58,7 +59,7 @@ returns-3 c =
     let k = c .before .before .before in
     let b = k .before .before in
     let z = b .before in
-    refuses _ _ 3 _ (c .refused3 .ensures)
+    refuses-whole _ _ 3 _ (c .refused3 .ensures)
     ∙ unfit _ _ _ _ _ (z .before .sizes-right .ensures) (z .if1 .left) (eq-eqb _ 10 (b .if2 .left)) _ (k .check .ensures)
     (c .before .if3 .taken)
 
@@ -71,8 +72,11 @@ restarted-requires c κs = few _ _ (ready-at (c .before .before .before .before 
 bytes-of-requires : tie.Need-bytes-of-requires
 bytes-of-requires c κs = search needs
 
-reply-with-requires : tie.Need-reply-with-requires
-reply-with-requires c κs = search needs
+write-reply-requires : tie.Need-write-reply-requires
+write-reply-requires c κs = search needs
+
+refused-requires-4 : tie.Need-refused-requires-4
+refused-requires-4 c κs = search needs
 
 same-length-2 : tie.Need-same-length-2
 same-length-2 c = search needs
@@ -83,14 +87,14 @@ same-length-3 c = search needs
 returns-4 : tie.Need-returns-4
 unfolding restartOf
 returns-4 c =
-    let a = c .before .before in
+    let a = c .before .before .before in
     let m = a .before .before in
     let u = m .before in
     let o = u .before .before .before in
     let q = o .before .before .before .before .before .before in
     taken _ _ (ready-at q) _ _ _ (eq-eqb _ 10 (q .before .before .before .before .if2 .left)) _
-    (accepts _ _ _ _ _ _ (a .reply-with .ensures)
-    ∙ restart-as _ _ (ready-at q) _ _ _ (u .restarted .ensures _ _) (o .restore .ensures) (m .bytes-of .ensures))
+    (restart-as _ _ (ready-at q) _ _ _ _ (c .refused4 .ensures) (u .restarted .ensures _ _) (o .restore .ensures)
+    (a .write-reply .ensures ∙ m .bytes-of .ensures))
 
 pub restart-spec : {M : Type 1} → statement M
 restart-spec =
@@ -108,7 +112,8 @@ restart-spec =
     restore-requires
     restarted-requires
     bytes-of-requires
-    reply-with-requires
+    write-reply-requires
+    refused-requires-4
     same-length-2
     same-length-3
     returns-4)

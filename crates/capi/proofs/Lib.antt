@@ -1,0 +1,2 @@
+mod Thin
+mod ThinWhole

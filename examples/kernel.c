@@ -1,0 +1,232 @@
+/* A small kernel in C with the debug stub in it: a debug session from the setup to the restart, step by step.
+ * rust/sanirvoq/examples/kernel.rs is the same in Rust and prints the same text, which is kept in kernel.txt. */
+#include "sanirvoq.h"
+
+#include <stdio.h>
+#include <stdlib.h>
+
+enum { BASE = 0x1000, SIZE = 64, PROCESSES = 2, SITE = 0x1008, SHOWN = 8 };
+enum { TMGET = 2, TMPUT = 4, TPROC = 6, TSTATUS = 8, TSTOP = 12, TSTART = 14, TCONDBREAK = 16 };
+enum { RERR = 1, RPROC = 7, RSTATUS = 9 };
+enum { RUNNING = 4 }; /* a state byte */
+enum { LABEL = 32 };  /* bytes of a line's label */
+
+struct kernel {
+    struct sanirvoq_target target;
+    struct sanirvoq_lent lent;
+};
+
+/* ---- the kernel's side ---- */
+
+/* Ends the program where a step that should be accepted is not. */
+static void expect_accepted(const char *what, uint8_t number) {
+    if (number != SANIRVOQ_ACCEPTED) {
+        fprintf(stderr, "%s: number %u\n", what, number);
+        exit(EXIT_FAILURE);
+    }
+}
+
+/* From the heap, so that valgrind sees an access past the end. */
+static uint8_t *lend(size_t length) {
+    uint8_t *bytes = calloc(length, 1);
+    if (bytes == NULL) {
+        fprintf(stderr, "no memory\n");
+        exit(EXIT_FAILURE);
+    }
+    return bytes;
+}
+
+static void set_up(struct kernel *kernel) {
+    const uint32_t pids[PROCESSES] = {5, 7};
+    const uint32_t addresses[PROCESSES] = {0x80001000, 0x80002000};
+    const size_t registers = (size_t)PROCESSES * SANIRVOQ_BLOCK;
+    kernel->lent = (struct sanirvoq_lent){lend(SIZE), SIZE, lend(registers), registers};
+    for (int i = 0; i < SIZE; i++) {
+        kernel->lent.memory[i] = (uint8_t)i;
+    }
+    expect_accepted("setup", sanirvoq_setup(&kernel->target, kernel->lent, BASE, SIZE, pids, addresses, PROCESSES));
+}
+
+static void take_down(struct kernel *kernel) {
+    free(kernel->lent.memory);
+    free(kernel->lent.registers);
+}
+
+static void put_word(uint8_t *bytes, uint32_t word) {
+    for (int i = 0; i < 4; i++) {
+        bytes[i] = (uint8_t)(word >> (24 - 8 * i));
+    }
+}
+
+/* What a process has in its registers when it comes to a pc: 0x100 times the register's number, plus the pid. */
+static void fill_block(uint8_t *block, uint32_t pid, uint32_t pc) {
+    memset(block, 0, SANIRVOQ_BLOCK);
+    for (uint32_t i = 1; i < 32; i++) {
+        put_word(block + 4 * i, 0x100 * i + pid);
+    }
+    put_word(block + SANIRVOQ_BLOCK - 4, pc);
+}
+
+/* ---- lines of text ---- */
+
+static void print_bytes(const uint8_t *bytes, size_t length) {
+    for (size_t i = 0; i < length; i++) {
+        printf(i == 0 ? "%02x" : " %02x", bytes[i]);
+    }
+}
+
+static void print_label(const char *label) { printf("  %-30s ", label); }
+
+static void show_memory(const struct kernel *kernel) {
+    print_label("memory at 0x1008");
+    print_bytes(kernel->lent.memory + (SITE - BASE), SHOWN);
+    printf("\n");
+}
+
+/* ---- the engineer's side ---- */
+
+/* Sends a request (a type, a number of four bytes, and what follows, zero padded), and shows it and its reply. */
+static void ask(struct kernel *kernel, const char *label, uint8_t type, uint32_t number, const uint8_t *rest, size_t length) {
+    uint8_t request[SANIRVOQ_MESSAGE] = {type};
+    uint8_t reply[SANIRVOQ_MESSAGE];
+    put_word(request + 1, number);
+    if (length > 0) {
+        memcpy(request + 5, rest, length);
+    }
+    expect_accepted(label, sanirvoq_request(&kernel->target, kernel->lent, request, sizeof request, reply, sizeof reply));
+    print_label(label);
+    print_bytes(request, sizeof request);
+    printf(" -> ");
+    print_bytes(reply, sizeof reply);
+    if (reply[0] == RERR || reply[0] == RPROC || reply[0] == RSTATUS) {
+        printf("  %.9s", (const char *)(reply + 1));
+    }
+    printf("\n");
+}
+
+static void ask_process(struct kernel *kernel, const char *label, uint8_t type, uint32_t pid) {
+    ask(kernel, label, type, pid, NULL, 0);
+}
+
+static void read_bytes(struct kernel *kernel, const char *label, uint32_t address, uint8_t n) {
+    ask(kernel, label, TMGET, address, &n, 1);
+}
+
+static void write_four(struct kernel *kernel, const char *label, uint32_t address, uint32_t word) {
+    uint8_t rest[5] = {4};
+    put_word(rest + 1, word);
+    ask(kernel, label, TMPUT, address, rest, sizeof rest);
+}
+
+static void condition(struct kernel *kernel, const char *label, char letter, uint32_t value) {
+    const uint8_t op = (uint8_t)letter;
+    ask(kernel, label, TCONDBREAK, value, &op, 1);
+}
+
+/* ---- events ---- */
+
+/* A process comes to a pc where memory holds a trap. */
+static void run_into_trap(struct kernel *kernel, uint32_t pid, uint32_t pc) {
+    uint8_t block[SANIRVOQ_BLOCK];
+    char label[LABEL];
+    fill_block(block, pid, pc);
+    const uint32_t result = sanirvoq_trap(&kernel->target, kernel->lent, pid, block, sizeof block);
+    snprintf(label, sizeof label, "trap of %u at 0x%x", (unsigned)pid, (unsigned)pc);
+    print_label(label);
+    if (sanirvoq_number(result) != SANIRVOQ_ACCEPTED) {
+        printf("refused with number %u\n", sanirvoq_number(result));
+    } else if (sanirvoq_answer(result) == 1) {
+        printf("Stop by breakpoint %u\n", sanirvoq_first(result));
+    } else {
+        printf("Pass: the kernel runs %02x %02x elsewhere\n", sanirvoq_first(result), sanirvoq_second(result));
+    }
+}
+
+static void about_to_run(struct kernel *kernel, uint32_t pid) {
+    uint8_t block[SANIRVOQ_BLOCK];
+    char label[LABEL];
+    fill_block(block, pid, BASE);
+    const uint32_t result = sanirvoq_schedule(&kernel->target, kernel->lent, pid, block, sizeof block);
+    expect_accepted("schedule", sanirvoq_number(result));
+    snprintf(label, sizeof label, "schedule of %u", (unsigned)pid);
+    print_label(label);
+    printf("%s\n", sanirvoq_answer(result) == 1 ? "yes: it stops" : "no: it runs");
+}
+
+/* ---- the session ---- */
+
+static void set_breakpoints(struct kernel *kernel) {
+    printf("She sets breakpoint 4 at 0x1008 for process 7 only, and 9 at 0x100c for all.\n");
+    condition(kernel, "Tcondbreak n 4", 'n', 4);
+    condition(kernel, "Tcondbreak k 7", 'k', 7);
+    condition(kernel, "Tcondbreak a", 'a', 0);
+    condition(kernel, "Tcondbreak b 0x1008", 'b', SITE);
+    condition(kernel, "Tcondbreak n 9", 'n', 9);
+    condition(kernel, "Tcondbreak b 0x100c", 'b', 0x100c);
+    show_memory(kernel);
+}
+
+static void patch(struct kernel *kernel) {
+    printf("She writes across both traps. The traps stand, and she reads what she wrote.\n");
+    write_four(kernel, "Tmput 0x1009 n 4 aa bb cc dd", 0x1009, 0xaabbccdd);
+    show_memory(kernel);
+    read_bytes(kernel, "Tmget 0x1008 n 8", SITE, 8);
+}
+
+static void stop_one(struct kernel *kernel) {
+    printf("Both processes come to 0x1008: 5 runs on over the new bytes, 7 stops.\n");
+    run_into_trap(kernel, 5, SITE);
+    run_into_trap(kernel, 7, SITE);
+    printf("She reads register 10 of process 7 and starts it, which removes breakpoint 4.\n");
+    ask_process(kernel, "Tproc 7", TPROC, 7);
+    read_bytes(kernel, "Tmget 0x28 n 4", 0x28, 4);
+    ask_process(kernel, "Tstart 7", TSTART, 7);
+    show_memory(kernel);
+}
+
+static void stop_other(struct kernel *kernel) {
+    printf("She wants process 5 stopped. It stops when the kernel is about to run it.\n");
+    ask_process(kernel, "Tstop 5", TSTOP, 5);
+    about_to_run(kernel, 7);
+    about_to_run(kernel, 5);
+    ask_process(kernel, "Tstatus 5", TSTATUS, 5);
+    printf("The kernel gives process 7 the state 4.\n");
+    expect_accepted("state", sanirvoq_state(&kernel->target, kernel->lent, 7, RUNNING));
+    ask_process(kernel, "Tstatus 7", TSTATUS, 7);
+}
+
+static void be_refused(struct kernel *kernel) {
+    printf("A write that leaves the window is refused; so is a trap of a stopped process.\n");
+    write_four(kernel, "Tmput 0x103e n 4 01 02 03 04", 0x103e, 0x01020304);
+    run_into_trap(kernel, 5, SITE);
+}
+
+static void restart(struct kernel *kernel) {
+    uint8_t reply[SANIRVOQ_MESSAGE];
+    printf("The kernel begins the session anew. The last trap goes, what she wrote stays.\n");
+    show_memory(kernel);
+    expect_accepted("restart", sanirvoq_restart(&kernel->target, kernel->lent, reply, sizeof reply));
+    print_label("restart");
+    print_bytes(reply, sizeof reply);
+    printf("  %.9s\n", (const char *)(reply + 1));
+    show_memory(kernel);
+}
+
+int main(void) {
+    const uint8_t patched[SHOWN] = {0x08, 0xaa, 0xbb, 0xcc, 0xdd, 0x0d, 0x0e, 0x0f};
+    struct kernel kernel;
+    set_up(&kernel);
+    printf("The kernel has processes 5 and 7 and lends 64 bytes at 0x1000; byte i is i.\n");
+    show_memory(&kernel);
+    printf("The engineer reads four bytes.\n");
+    read_bytes(&kernel, "Tmget 0x1004 n 4", 0x1004, 4);
+    set_breakpoints(&kernel);
+    patch(&kernel);
+    stop_one(&kernel);
+    stop_other(&kernel);
+    be_refused(&kernel);
+    restart(&kernel);
+    const int kept = memcmp(kernel.lent.memory + (SITE - BASE), patched, SHOWN) == 0;
+    take_down(&kernel);
+    return kept ? EXIT_SUCCESS : EXIT_FAILURE;
+}

@@ -1,0 +1,152 @@
+//! The tables that the program prints, and the aims that the ratios are held against.
+
+use crate::cases::Fill;
+use crate::stack::Depth;
+use crate::timing::{median, median_ratio, Timing};
+
+/// The largest ratio that is aimed at over a full table, and over any other.
+const AIM_FULL: f64 = 1.5;
+const AIM_EMPTY: f64 = 3.0;
+
+pub struct Row {
+    pub name: &'static str,
+    pub fill: Fill,
+    pub window: u32,
+    pub timing: Timing,
+}
+
+impl Row {
+    /// One line of the table.
+    pub fn line(&self) -> String {
+        let Timing { proved, rust, copying } = &self.timing;
+        let (proved, rust, ratio) = (median(proved), median(rust), self.timing.ratio());
+        let copied = copying.map_or(String::new(), |(a, b)| format!("  {a:.1} / {b:.1}"));
+        format!("{}{proved:>10.1}{rust:>10.1}{ratio:>8.2}{copied}", self.label())
+    }
+
+    fn label(&self) -> String {
+        format!("{:<28}{:<7}{:>6}", self.name, self.fill.name(), self.window)
+    }
+
+    /// The case as part of a sentence.
+    fn place(&self) -> String {
+        format!("{}, table {}, window {}", self.name, self.fill.name(), self.window)
+    }
+}
+
+pub fn heading() -> String {
+    let columns = format!("{:<28}{:<7}{:>6}", "case", "table", "window");
+    format!("{columns}{:>10}{:>10}{:>8}  {}", "proved ns", "Rust ns", "ratio", "copying taken off")
+}
+
+/// The largest ratios against the aims, and every case above its aim.
+pub fn aims(rows: &[Row]) -> String {
+    let group = |name, aim, fills: &[Fill]| {
+        let group: Vec<&Row> = rows.iter().filter(|row| fills.contains(&row.fill)).collect();
+        against(name, aim, &group)
+    };
+    let between = "one or three breakpoints, held to the same";
+    group("full table", AIM_FULL, &[Fill::Full])
+        + &group("empty table", AIM_EMPTY, &[Fill::Empty])
+        + &group(between, AIM_EMPTY, &[Fill::One, Fill::Three])
+}
+
+fn against(name: &str, aim: f64, rows: &[&Row]) -> String {
+    let ratio = |row: &&&Row| row.timing.ratio();
+    let Some(largest) = rows.iter().max_by(|a, b| ratio(a).total_cmp(&ratio(b))) else {
+        return format!("{name}: no case was run\n");
+    };
+    let mut above: Vec<_> = rows.iter().filter(|row| ratio(row) > aim).collect();
+    above.sort_by(|a, b| ratio(b).total_cmp(&ratio(a)));
+    let mut text = format!(
+        "{name}: largest ratio {:.2} ({}); aim {aim}; {} of {} above it\n",
+        ratio(&largest),
+        largest.place(),
+        above.len(),
+        rows.len()
+    );
+    for row in above {
+        text += &format!("  above: {:.2}  {}\n", ratio(&row), row.place());
+    }
+    text
+}
+
+/// What the proved steps cost over the largest window against the smallest, at most.
+pub fn growth(rows: &[Row]) -> Option<String> {
+    let windows = rows.iter().map(|row| row.window);
+    let (small, large) = (windows.clone().min()?, windows.max()?);
+    let grown = |row: &Row| {
+        let same = |other: &&Row| (other.name, other.fill) == (row.name, row.fill);
+        let before = rows.iter().filter(same).find(|other| other.window == small)?;
+        Some((median_ratio(&row.timing.proved, &before.timing.proved), row.place()))
+    };
+    let all = rows.iter().filter(|row| row.window == large).filter_map(grown);
+    let (factor, place) = all.max_by(|a, b| a.0.total_cmp(&b.0))?;
+    Some(format!("window of {large} against {small} bytes: at most {factor:.2} times ({place})\n"))
+}
+
+pub fn stacks(depths: &[Depth]) -> String {
+    let line =
+        |depth: &Depth| format!("{:<28}{:>8}  {}\n", depth.step.symbol(), depth.bytes, depth.case);
+    let heading = format!("{:<28}{:>8}  {}\n", "step", "bytes", "deepest in the case");
+    depths.iter().map(line).fold(heading, |text, line| text + &line)
+}
+
+#[cfg(test)]
+mod tests {
+    use super::*;
+    use crate::proved::Step;
+
+    fn row(name: &'static str, fill: Fill, window: u32, proved: f64, rust: f64) -> Row {
+        let timing = Timing { proved: vec![proved], rust: vec![rust], copying: None };
+        Row { name, fill, window, timing }
+    }
+
+    #[test]
+    fn a_row_has_its_figures_and_what_copying_took() {
+        let mut row = row("Tproc", Fill::Full, 64, 120.04, 96.0);
+        let words = |row: &Row| row.line().split_whitespace().map(String::from).collect::<Vec<_>>();
+        assert_eq!(words(&row), ["Tproc", "full", "64", "120.0", "96.0", "1.25"]);
+        row.timing.copying = Some((8.0, 9.5));
+        assert_eq!(words(&row)[6..], ["8.0", "/", "9.5"]);
+    }
+
+    #[test]
+    fn every_case_above_its_aim_is_listed() {
+        let rows = [
+            row("a", Fill::Full, 64, 149.0, 100.0),
+            row("b", Fill::Full, 64, 151.0, 100.0),
+            row("c", Fill::Full, 65_536, 200.0, 100.0),
+            row("d", Fill::Empty, 64, 290.0, 100.0),
+        ];
+        let expected = "\
+full table: largest ratio 2.00 (c, table full, window 65536); aim 1.5; 2 of 3 above it
+  above: 2.00  c, table full, window 65536
+  above: 1.51  b, table full, window 64
+empty table: largest ratio 2.90 (d, table empty, window 64); aim 3; 0 of 1 above it
+one or three breakpoints, held to the same: no case was run
+";
+        assert_eq!(aims(&rows), expected);
+    }
+
+    #[test]
+    fn growth_is_that_of_the_same_case() {
+        let rows = [
+            row("a", Fill::Full, 64, 100.0, 1.0),
+            row("a", Fill::Empty, 64, 10.0, 1.0),
+            row("a", Fill::Full, 65_536, 110.0, 1.0),
+            row("a", Fill::Empty, 65_536, 12.0, 1.0),
+        ];
+        let expected =
+            "window of 65536 against 64 bytes: at most 1.20 times (a, table empty, window 65536)\n";
+        assert_eq!(growth(&rows).as_deref(), Some(expected));
+    }
+
+    #[test]
+    fn a_step_has_its_symbol_bytes_and_case() {
+        let text = stacks(&[Depth { step: Step::Trap, bytes: 1234, case: "trap, 0 elements" }]);
+        let last = text.lines().last().expect("a line for the step");
+        let words: Vec<&str> = last.split_whitespace().collect();
+        assert_eq!(words, ["sanirvoq_step_trap", "1234", "trap,", "0", "elements"]);
+    }
+}

@@ -1,0 +1,47 @@
+//! The program as it is run.
+
+use std::process::{Command, Output};
+
+fn bench(arguments: &[&str]) -> Output {
+    Command::new(env!("CARGO_BIN_EXE_bench")).args(arguments).output().expect("bench runs")
+}
+
+fn text(bytes: &[u8]) -> &str {
+    std::str::from_utf8(bytes).expect("text")
+}
+
+/// The lines from the one that begins so to the next empty one.
+fn block<'a>(all: &'a str, start: &str) -> Vec<&'a str> {
+    let from = all.lines().skip_while(|line| !line.starts_with(start));
+    from.take_while(|line| !line.is_empty()).collect()
+}
+
+#[test]
+fn a_quick_run_prints_every_table() {
+    let output = bench(&["--quick", "--only", "Tmget"]);
+    assert!(output.status.success(), "{}", text(&output.stderr));
+    let all = text(&output.stdout);
+    let rows = &block(all, "case ")[1..];
+    assert_eq!(rows.len(), 10, "five cases over two windows: {rows:#?}");
+    for row in rows {
+        let figures: Vec<f64> = row.split_whitespace().flat_map(str::parse).collect();
+        let [.., window, proved, rust, ratio] = figures[..] else { panic!("{row}") };
+        assert!(window == 64.0 || window == 65_536.0, "{row}");
+        assert!(proved > 0.0 && rust > 0.0 && ratio > 0.0, "{row}");
+    }
+    let aims = block(all, "full table: largest ratio");
+    assert!(aims.iter().any(|line| line.starts_with("empty table: largest ratio")), "{aims:#?}");
+    let steps = &block(all, "step ")[1..];
+    let names: Vec<_> = steps.iter().flat_map(|line| line.split_whitespace().next()).collect();
+    assert_eq!(names, ["sanirvoq_step_setup", "sanirvoq_step_request"]);
+    assert!(all.contains("Size of the archive: "), "{all}");
+}
+
+#[test]
+fn what_it_does_not_know_is_refused() {
+    for arguments in [&["--slow"][..], &["--only"], &["--only", "no such case"]] {
+        let output = bench(arguments);
+        assert!(!output.status.success() && output.stdout.is_empty(), "{arguments:?}");
+        assert!(text(&output.stderr).starts_with("bench: "), "{arguments:?}");
+    }
+}

@@ -1,0 +1,57 @@
+//! The book of demand 3 beside a session: what it is fed, and what the record must have of it.
+
+use crate::op::{Call, Kind};
+use crate::pair::Answer;
+use reference::{Book, Claim, Planted, Verdict, STOPPED};
+use sanirvoq::ffi;
+
+/// Feeds an accepted step, with the register area that it was lent.
+pub fn feed(book: &mut Book, call: &Call, registers: &[u8], proved: &Answer) -> Claim {
+    let wrong = |_| "an accepted step has an input or a reply of wrong size";
+    match (call.kind, proved.result) {
+        (Kind::Request, _) => {
+            let request = call.input[..].try_into().map_err(wrong)?;
+            book.request(request, registers, proved.reply[..].try_into().map_err(wrong)?)?;
+        }
+        (Kind::Trap, [_, answer, first, second]) => {
+            let pass = Verdict::Pass([first, second]);
+            let verdict = if answer == 1 { Verdict::Stop(first) } else { pass };
+            book.trap(call.pid, call.input[..].try_into().map_err(wrong)?, verdict)?;
+        }
+        (Kind::Schedule, [_, answer, ..]) => book.schedule(call.pid, answer == 1),
+        (Kind::Restart, _) => book.restart(),
+        (Kind::Setup | Kind::State, _) => {}
+    }
+    Ok(())
+}
+
+/// The record has the book's breakpoints and no other, its Stopped processes and no other, and in
+/// hand nothing but the book's draft. The book keeps a draft that the stub dropped.
+pub fn record_has(target: &ffi::Target, book: &Book) -> Claim {
+    let same = |items: &[ffi::Element], count: u32, sent: &[(u8, u32)]| {
+        let items = items.iter().take(count as usize).map(|item| (item.letter, item.value));
+        items.eq(sent.iter().copied())
+    };
+    let used = || target.table.entries.iter().filter(|entry| entry.used == 1);
+    let has = |one: &Planted| {
+        used().any(|entry| {
+            (entry.site, u32::from(entry.id)) == (one.site, one.condition.id)
+                && same(&entry.elements, entry.count, &one.condition.elements)
+        })
+    };
+    if used().count() != book.planted().len() || !book.planted().iter().all(has) {
+        return Err("the record's breakpoints are not the book's");
+    }
+    let mut listed = target.processes.iter().take(target.count as usize);
+    if !listed.all(|one| (one.state == STOPPED) == book.stopped().contains(&one.pid)) {
+        return Err("the record's Stopped processes are not the book's");
+    }
+    let draft = &target.table.draft;
+    let known = book.draft().is_some_and(|kept| {
+        u32::from(draft.id) == kept.id && same(&draft.elements, draft.count, &kept.elements)
+    });
+    if draft.active == 1 && !known {
+        return Err("the condition in hand is not the book's draft");
+    }
+    Ok(())
+}

@@ -1,0 +1,127 @@
+//! The independent stub, with the packed results of the C interface.
+
+use crate::op::{Call, Kind};
+use crate::raw::held;
+use crate::record::Record;
+use reference::{fit, Refusal, Stub, Verdict, BLOCK};
+use sanirvoq::ffi;
+
+/// The record that the independent side has.
+pub enum Held {
+    /// One that its types hold.
+    Stub(Stub),
+    /// One that they do not: not fit, whatever memory has.
+    Raw(ffi::Target),
+}
+
+impl Held {
+    pub fn new(record: &Record) -> Self {
+        let target = record.target();
+        match held(target) {
+            Some(stub) => Self::Stub(stub),
+            None => Self::Raw(*target),
+        }
+    }
+
+    pub fn stub(&self) -> Option<&Stub> {
+        match self {
+            Self::Stub(stub) => Some(stub),
+            Self::Raw(_) => None,
+        }
+    }
+
+    /// The number that every step but setup has with these buffers and this record: 2, 3 or 0,
+    /// where nothing else is in its way.
+    pub fn number(&self, memory: &[u8], registers: &[u8]) -> u8 {
+        let (size, count, fits) = match self {
+            Self::Stub(stub) => (stub.size, stub.processes.len() as u32, fit(stub, memory)),
+            Self::Raw(raw) => (raw.size, raw.count, false),
+        };
+        let area = BLOCK as u64 * u64::from(count);
+        if (memory.len() as u64, registers.len() as u64) != (u64::from(size), area) {
+            2
+        } else if !fits {
+            3
+        } else {
+            0
+        }
+    }
+
+    /// Runs a step. Gives the number in the lowest byte, then the three bytes of the answer.
+    pub fn step(
+        &mut self,
+        call: &Call,
+        memory: &mut [u8],
+        registers: &mut [u8],
+        reply: &mut [u8],
+    ) -> u32 {
+        let done = match (call.kind, &mut *self) {
+            (Kind::Setup, _) => self.setup(memory, registers),
+            (_, Self::Raw(_)) => Err(self.raw_refusal(call, memory, registers)),
+            (_, Self::Stub(stub)) => stub_step(stub, call, memory, registers, reply),
+        };
+        let [answer, first, second] = done.unwrap_or_default();
+        let number = done.map_or_else(Refusal::number, |_| 0);
+        u32::from_le_bytes([number, answer, first, second])
+    }
+
+    /// Setup takes its arguments from the record, whatever else that holds.
+    fn setup(&mut self, memory: &[u8], registers: &[u8]) -> Result<[u8; 3], Refusal> {
+        let (base, size, mut processes) = match self {
+            Self::Stub(stub) => {
+                let pairs = stub.processes.iter().map(|one| (one.pid, one.address));
+                (stub.base, stub.size, pairs.collect::<Vec<_>>())
+            }
+            Self::Raw(raw) => {
+                let pairs = raw.processes.iter().map(|one| (one.pid, one.address));
+                (raw.base, raw.size, pairs.take(raw.count as usize).collect())
+            }
+        };
+        if matches!(self, Self::Raw(raw) if raw.count as usize > raw.processes.len()) {
+            // One more than there may be stands for all counts over four.
+            processes.push((u32::MAX, 0));
+        }
+        let mut stub = Stub::empty();
+        let done = stub.setup(base, size, &processes, memory, registers);
+        *self = Self::Stub(stub);
+        done.map(|()| [0; 3])
+    }
+
+    /// Sizes come before the record.
+    fn raw_refusal(&self, call: &Call, memory: &[u8], registers: &[u8]) -> Refusal {
+        let input = call.kind.input().is_none_or(|length| length == call.input.len());
+        let reply = call.kind.reply().is_none_or(|length| length == call.reply);
+        if input && reply && self.number(memory, registers) != 2 {
+            Refusal::Unfit
+        } else {
+            Refusal::Size
+        }
+    }
+}
+
+/// A step other than setup. Gives the three bytes of the answer.
+fn stub_step(
+    stub: &mut Stub,
+    call: &Call,
+    memory: &mut [u8],
+    registers: &mut [u8],
+    reply: &mut [u8],
+) -> Result<[u8; 3], Refusal> {
+    match call.kind {
+        Kind::Trap => stub.trap(memory, registers, call.pid, &call.input).map(packed),
+        Kind::Schedule => {
+            let yes = stub.schedule(memory, registers, call.pid, &call.input)?;
+            Ok([u8::from(yes), 0, 0])
+        }
+        Kind::State => stub.state(memory, registers, call.pid, call.value).map(|()| [0; 3]),
+        Kind::Restart => stub.restart(memory, registers, reply).map(|()| [0; 3]),
+        _ => stub.request(memory, registers, &call.input, reply).map(|()| [0; 3]),
+    }
+}
+
+fn packed(verdict: Verdict) -> [u8; 3] {
+    match verdict {
+        Verdict::Stop(id) => [1, id, 0],
+        Verdict::Pass([first, second]) => [2, first, second],
+    }
+}

@@ -1,0 +1,28 @@
+//! The comparison from outside: the proved stub, through its C interface, and the independent one
+//! of `rust/reference` get the same random and damaged input, and after every step all that they
+//! show is compared.
+//!
+//! - [`op`]: what is done to both sides; a run is a list of these
+//! - [`archive`] and [`independent`]: the two sides; [`raw`] says what a record of any bytes is
+//!   worth
+//! - [`pair`]: runs one [`op::Op`] on both sides and compares; what is compared when is said there
+//! - [`book`]: the book of demand 3 beside a session
+//! - [`make`]: makes the lists, from a seed
+//! - [`tally`]: counts what was reached
+//! - [`run`] and [`shrink`]: the whole run, and the short list where the sides differ
+
+#![deny(unsafe_code)]
+
+pub mod archive;
+pub mod book;
+pub mod difference;
+pub mod independent;
+pub mod make;
+pub mod op;
+pub mod pair;
+pub mod raw;
+pub mod record;
+pub mod rng;
+pub mod run;
+pub mod shrink;
+pub mod tally;

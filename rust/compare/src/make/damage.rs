@@ -1,0 +1,270 @@
+//! Records with damage: one field, one bit, all of it.
+
+use super::sorts::{Expect, SORTS};
+use super::{Scene, Writer};
+use crate::op::{Op, Origin};
+use crate::record::Record;
+use crate::rng::Rng;
+use reference::{BLOCK, ELEMENTS, ENTRIES, TRAP};
+use sanirvoq::ffi::{Draft, Element, Entry, Process, Table, Target};
+use std::mem::offset_of;
+
+const LETTERS: [u8; 8] = *b"kp*&=!ao";
+pub const OPERATORS: [u8; 6] = *b"*&=!ao";
+
+/// A record with damage, and other buffers where the damage needs them.
+pub struct Damaged {
+    pub record: Box<Record>,
+    pub memory: Option<Vec<u8>>,
+    pub registers: Option<Vec<u8>>,
+}
+
+/// Damage in the making.
+pub struct Damage<'a> {
+    pub rng: &'a mut Rng,
+    pub scene: &'a Scene<'a>,
+    pub made: Damaged,
+}
+
+impl Damage<'_> {
+    pub fn target(&mut self) -> &mut Target {
+        self.made.record.target_mut()
+    }
+
+    pub fn noise(&mut self) -> Record {
+        let mut noise = Record::zeroed();
+        self.rng.fill(noise.bytes_mut());
+        noise
+    }
+
+    pub fn set(&mut self, change: impl FnOnce(&mut Target, &mut Rng)) -> Option<()> {
+        change(self.made.record.target_mut(), self.rng);
+        Some(())
+    }
+
+    /// Changes one of the listed processes.
+    pub fn process(&mut self, change: impl FnOnce(&mut Process, &mut Rng)) -> Option<()> {
+        let i = self.rng.index(self.scene.stub.processes.len());
+        self.set(|target, rng| change(&mut target.processes[i], rng))
+    }
+
+    /// The index of a used entry.
+    pub fn used(&mut self) -> Option<usize> {
+        let start = self.rng.index(ENTRIES);
+        let entries = &self.target().table.entries;
+        (0..ENTRIES).map(|i| (start + i) % ENTRIES).find(|&i| entries[i].used == 1)
+    }
+
+    /// Changes a used entry.
+    pub fn entry(&mut self, change: impl FnOnce(&mut Entry, &mut Rng)) -> Option<()> {
+        let i = self.used()?;
+        self.set(|target, rng| change(&mut target.table.entries[i], rng))
+    }
+
+    /// Changes a used entry by another.
+    pub fn pair_up(&mut self, change: impl FnOnce(&mut Entry, &Entry)) -> Option<()> {
+        let i = self.used()?;
+        let entries = &mut self.target().table.entries;
+        let j = (0..ENTRIES).find(|&j| j != i && entries[j].used == 1)?;
+        let other = entries[j];
+        change(&mut entries[i], &other);
+        Some(())
+    }
+
+    /// An element of a used entry.
+    pub fn entry_element(&mut self) -> Option<&mut Element> {
+        let i = self.used()?;
+        let count = self.target().table.entries[i].count;
+        let k = (count > 0).then(|| self.rng.index(count as usize))?;
+        Some(&mut self.target().table.entries[i].elements[k])
+    }
+
+    /// Begins a condition as `n` does, and changes it.
+    pub fn draft(&mut self, change: impl FnOnce(&mut Draft, &mut Rng)) -> Option<()> {
+        self.scene.stub.free_entry()?;
+        let id = self.free_id();
+        self.set(|target, rng| {
+            target.table.draft = Draft { active: 1, id, ..Draft::default() };
+            change(&mut target.table.draft, rng);
+        })
+    }
+
+    /// An id that no used entry has.
+    pub fn free_id(&mut self) -> u8 {
+        let start = self.rng.byte();
+        let entries = &self.target().table.entries;
+        let taken = |id| entries.iter().any(|entry| entry.used == 1 && entry.id == id);
+        (0..=8).map(|i| start.wrapping_add(i)).find(|&id| !taken(id)).unwrap_or(start)
+    }
+
+    /// Sets breakpoints until no entry is free; None where the window is too small.
+    pub fn fill_table(&mut self) -> Option<()> {
+        let mut memory = self.scene.memory.to_vec();
+        let base = self.target().base;
+        for i in 0..ENTRIES {
+            if self.target().table.entries[i].used == 1 {
+                continue;
+            }
+            let entries = self.target().table.entries;
+            let taken = |site| entries.iter().any(|entry| entry.used == 1 && entry.site == site);
+            let mut places = (0..memory.len()).step_by(2);
+            let at = places.find(|&at| !taken(base + at as u32))?;
+            let plain = [memory[at], memory[at + 1]];
+            memory[at..at + 2].copy_from_slice(&TRAP);
+            let (id, site) = (self.free_id(), base + at as u32);
+            self.target().table.entries[i] = Entry { used: 1, id, plain, site, ..Entry::default() };
+        }
+        self.made.memory = Some(memory);
+        Some(())
+    }
+
+    /// Another M, with memory of that size.
+    pub fn resize_memory(&mut self, size: u32) -> Option<()> {
+        self.target().size = size;
+        let mut memory = self.scene.memory.to_vec();
+        memory.resize(size as usize, 0);
+        memory.shrink_to_fit();
+        self.made.memory = Some(memory);
+        Some(())
+    }
+
+    /// Another count of processes, with a register area of that size.
+    pub fn resize_registers(&mut self, count: u32) -> Option<()> {
+        self.target().count = count;
+        let mut registers = self.scene.registers.to_vec();
+        registers.resize(BLOCK * count as usize, 0);
+        registers.shrink_to_fit();
+        self.made.registers = Some(registers);
+        Some(())
+    }
+
+    /// The offset of a byte that is mostly of account.
+    pub fn telling_byte(&mut self) -> usize {
+        let table = offset_of!(Target, table);
+        match (self.rng.below(10), self.used()) {
+            (0..=3, Some(i)) => {
+                let head = offset_of!(Entry, elements);
+                let count = self.target().table.entries[i].count as usize;
+                let part = self.rng.index(head + count * size_of::<Element>());
+                table + i * size_of::<Entry>() + part
+            }
+            (4, _) => table + self.rng.index(ENTRIES) * size_of::<Entry>(),
+            (5 | 6, _) => table + offset_of!(Table, draft) + self.rng.index(24),
+            _ => self.rng.index(table),
+        }
+    }
+}
+
+/// A byte that is no flag.
+pub fn no_flag(rng: &mut Rng) -> u8 {
+    2 + rng.below(254) as u8
+}
+
+/// A count over 16; some are not when they are cut to fewer bits.
+pub fn over_16(rng: &mut Rng) -> u32 {
+    let any = rng.word().max(17);
+    rng.pick(&[17, 18, 255, 256, 257, 1 << 16, u32::MAX, any])
+}
+
+/// A byte that is the letter of no element.
+pub fn no_letter(rng: &mut Rng) -> u8 {
+    let any = rng.byte();
+    let letter = rng.pick(&[b'n', b'b', b'd', 0, b'K', b'P', any]);
+    if LETTERS.contains(&letter) {
+        0
+    } else {
+        letter
+    }
+}
+
+/// Noise in all that lies past a count.
+pub fn past_counts(target: &mut Target, noise: &Target) {
+    let count = target.count as usize;
+    target.processes[count..].copy_from_slice(&noise.processes[count..]);
+    let table = &mut target.table;
+    for (entry, noise) in table.entries.iter_mut().zip(&noise.table.entries) {
+        let count = ELEMENTS.min(entry.count as usize);
+        entry.elements[count..].copy_from_slice(&noise.elements[count..]);
+    }
+    let count = ELEMENTS.min(table.draft.count as usize);
+    table.draft.elements[count..].copy_from_slice(&noise.table.draft.elements[count..]);
+}
+
+/// Entries of anything that the flags, counts and letters of a table can say; sites that hold traps
+/// among them.
+pub fn random_table(target: &mut Target, noise: &Target, rng: &mut Rng) {
+    let sites = target.table.entries.map(|entry| entry.site);
+    for (entry, noise) in target.table.entries.iter_mut().zip(&noise.table.entries) {
+        let site = rng.pick(&sites);
+        *entry = Entry { used: u8::from(rng.chance(25)), count: rng.below(5), site, ..*noise };
+        for element in &mut entry.elements {
+            element.letter = rng.pick(b"kkppp*&=!ao");
+            element.value &= if OPERATORS.contains(&element.letter) { 0 } else { !0 };
+        }
+    }
+}
+
+impl Writer<'_> {
+    /// Something that gives damage a hold.
+    pub fn build_up(&mut self) {
+        match self.rng.weighted(&[40, 15, 25, 10, 10]) {
+            0 => self.condition(),
+            1 => self.fill(),
+            2 => self.trap(),
+            3 => self.schedule(),
+            _ => {
+                let id = self.free_id();
+                self.op(b'n', id);
+                for (letter, val) in self.elements() {
+                    self.op(letter, val);
+                }
+            }
+        }
+    }
+
+    /// A damaged record, a few steps on it, and all as it was.
+    pub fn damage(&mut self) {
+        let (sort, Damaged { record, memory, registers }) = self.damaged();
+        let unharmed = memory.is_none() && registers.is_none();
+        let may_go_on = matches!(SORTS[sort].expect, Expect::Fit | Expect::Any(_));
+        self.ops.extend(memory.map(Op::Memory));
+        self.ops.extend(registers.map(Op::Registers));
+        self.ops.push(Op::Record(record, Origin::Damaged(sort)));
+        for _ in 0..=self.rng.below(if may_go_on { 6 } else { 2 }) {
+            self.try_out();
+        }
+        if may_go_on || !unharmed {
+            self.ops.push(Op::Memory(self.scene.memory.to_vec()));
+            self.ops.push(Op::Registers(self.scene.registers.to_vec()));
+        }
+        self.ops.push(Op::Record(Box::new(self.scene.record.clone()), Origin::Restored));
+    }
+
+    /// A record with damage of a sort that it has something for.
+    fn damaged(&mut self) -> (usize, Damaged) {
+        loop {
+            let sort = self.rng.index(SORTS.len());
+            let record = Box::new(self.scene.record.clone());
+            let made = Damaged { record, memory: None, registers: None };
+            let mut damage = Damage { rng: self.rng, scene: &self.scene, made };
+            if (SORTS[sort].apply)(&mut damage).is_some() {
+                return (sort, damage.made);
+            }
+        }
+    }
+
+    /// A step of any kind that would do something.
+    fn try_out(&mut self) {
+        match self.rng.below(10) {
+            0 => self.memory(),
+            1 => self.condition(),
+            2 => self.pid_request(),
+            3 | 4 => self.trap(),
+            5 => self.schedule(),
+            6 => self.other_state(),
+            7 => self.restart(),
+            8 => self.wrong_size(),
+            _ => self.noise(),
+        }
+    }
+}

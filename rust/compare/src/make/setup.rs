@@ -1,0 +1,186 @@
+//! Setups, accepted and refused.
+
+use super::{block, call, sizes, ten};
+use crate::op::{Kind, Op, Origin};
+use crate::record::Record;
+use crate::rng::Rng;
+use reference::BLOCK;
+use sanirvoq::ffi::Target;
+
+/// A rule of setup and a way to break it alone.
+pub struct Rule {
+    pub name: &'static str,
+    spoil: fn(&mut Rng, &mut Target),
+}
+
+pub const RULES: [Rule; 10] = [
+    Rule { name: "M is 0", spoil: |_, asked| asked.size = 0 },
+    Rule { name: "M is no multiple of 4", spoil: |rng, asked| asked.size -= rng.pick(&[1, 2, 3]) },
+    Rule {
+        name: "M is over 65,536",
+        spoil: |rng, asked| {
+            let any = 65_540 + (rng.word() & 0x7fff_fffc);
+            (asked.base, asked.size) = (4_096, rng.pick(&[65_540, 131_072, 0x8000_0000, any]));
+        },
+    },
+    Rule {
+        name: "B is no multiple of 4",
+        spoil: |rng, asked| asked.base = asked.base.wrapping_sub(rng.pick(&[1, 2, 3])).max(4_097),
+    },
+    Rule {
+        name: "B is under 4,096",
+        spoil: |rng, asked| {
+            let any = 4 * rng.below(1_024);
+            asked.base = rng.pick(&[0, 4, 136, 4_092, any]);
+        },
+    },
+    Rule {
+        name: "B + M is over 2^32",
+        spoil: |rng, asked| {
+            asked.size = asked.size.max(8);
+            let over = 4 * (1 + rng.below(asked.size / 4 - 1));
+            asked.base = over.wrapping_sub(asked.size);
+        },
+    },
+    Rule { name: "there is no process", spoil: |_, asked| asked.count = 0 },
+    Rule {
+        name: "there are over four processes",
+        // The last two wrap to 0 and to 1 where they are multiplied by 136 in 32 bits.
+        spoil: |rng, asked| {
+            asked.count = rng.pick(&[5, 6, 8, 255, u32::MAX, 1 << 29, (1 << 29) + 1])
+        },
+    },
+    Rule {
+        name: "a pid is 0",
+        spoil: |rng, asked| asked.processes[rng.index(asked.count as usize)].pid = 0,
+    },
+    Rule {
+        name: "two pids are equal",
+        spoil: |rng, asked| {
+            asked.count = 2 + rng.below(3);
+            let (one, other) = two(rng, asked.count as usize);
+            for (i, process) in asked.processes.iter_mut().enumerate() {
+                process.pid = 1 + i as u32;
+            }
+            asked.processes[one].pid = asked.processes[other].pid;
+        },
+    },
+];
+
+/// Two different indices below `n`, which is at least 2.
+pub fn two(rng: &mut Rng, n: usize) -> (usize, usize) {
+    let one = rng.index(n);
+    (one, (one + 1 + rng.index(n - 1)) % n)
+}
+
+/// Memory, register area, a record with the arguments of a setup and anything in the rest, and the
+/// setup.
+pub fn opening(rng: &mut Rng, record: &Record, rule: Option<usize>, ops: &mut Vec<Op>) {
+    let mut asked = Box::new(dirt(rng, record));
+    ask(rng, asked.target_mut());
+    if let Some(rule) = rule {
+        (RULES[rule].spoil)(rng, asked.target_mut());
+    }
+    let &Target { size, count, .. } = asked.target();
+    // Of the right size, unless the size is absurd; rule 1 comes before 2.
+    let size = if size <= 65_536 { size as usize } else { 64 };
+    let count = if count <= 8 { count as usize } else { 1 };
+    ops.push(Op::Memory(content(rng, size)));
+    ops.push(Op::Registers(rng.bytes(BLOCK * count)));
+    ops.push(Op::Record(asked, Origin::Setup(rule)));
+    ops.push(setup(rng));
+}
+
+/// The setup of an opening is lent buffers of wrong size.
+pub fn spoil_sizes(rng: &mut Rng, ops: &mut [Op]) {
+    if let [.., Op::Memory(memory), Op::Registers(registers), _, Op::Step(call)] = ops {
+        sizes::spoil(rng, call, memory.len(), registers.len());
+    }
+}
+
+fn setup(rng: &mut Rng) -> Op {
+    let noise = rng.next_u64();
+    Op::Step(call(rng, Kind::Setup, noise as u32, (noise >> 32) as u8, Vec::new()))
+}
+
+/// What is in a record before a setup.
+fn dirt(rng: &mut Rng, record: &Record) -> Record {
+    let mut dirty = record.clone();
+    match rng.weighted(&[25, 15, 40, 20]) {
+        0 => dirty.bytes_mut().fill(0),
+        1 => dirty.bytes_mut().fill(0xff),
+        2 => rng.fill(dirty.bytes_mut()),
+        _ => {}
+    }
+    dirty
+}
+
+/// Sound arguments.
+fn ask(rng: &mut Rng, asked: &mut Target) {
+    // Windows of many bytes cost time at each comparison; one session in a hundred has the largest.
+    asked.size = match rng.weighted(&[5, 50, 29, 14, 1, 1]) {
+        0 => 4,
+        1 => 4 * (1 + rng.below(16)),
+        2 => 4 * (1 + rng.below(64)),
+        3 => 4 * (1 + rng.below(512)),
+        4 => 4 * (1 + rng.below(16_384)),
+        _ => 65_536,
+    };
+    let top = asked.size.wrapping_neg();
+    asked.base = match rng.weighted(&[20, 25, 5, 15, 35]) {
+        0 => 4_096,
+        1 => top,
+        2 => top - 4,
+        3 => 4_096 + 4 * rng.below(1_024),
+        _ => (rng.word() & !3).clamp(4_096, top),
+    };
+    asked.count = 1 + rng.below(4);
+    for i in 0..asked.count as usize {
+        let taken = |pid| asked.processes[..i].iter().any(|one| one.pid == pid);
+        let any = rng.word().max(1);
+        let choices = [1 + rng.below(12), 1 + rng.below(12), any, u32::MAX];
+        let start = rng.pick(&choices);
+        let pid = (0..4).map(|k| start.wrapping_sub(k).max(1)).find(|&pid| !taken(pid));
+        asked.processes[i].pid = pid.unwrap_or(100 + i as u32);
+        asked.processes[i].address = rng.word();
+    }
+}
+
+/// Memory at setup; some of it has trap bytes of its own.
+fn content(rng: &mut Rng, length: usize) -> Vec<u8> {
+    let mut memory = rng.bytes(length);
+    match rng.weighted(&[60, 20, 20]) {
+        0 => {}
+        1 => memory.iter_mut().for_each(|byte| *byte = [0, 1, 0x02, 0x90][usize::from(*byte % 4)]),
+        _ => memory.iter_mut().enumerate().for_each(|(i, byte)| *byte = i as u8),
+    }
+    memory
+}
+
+/// Steps on an empty record: number 2 with the buffers there are, 3 with empty ones. A setup
+/// between them finds B and M 0.
+pub fn on_empty(rng: &mut Rng, ops: &mut Vec<Op>) {
+    for _ in 0..rng.below(3) {
+        ops.push(blind(rng));
+    }
+    if rng.chance(20) {
+        ops.push(setup(rng));
+    }
+    ops.push(Op::Memory(Vec::new()));
+    ops.push(Op::Registers(Vec::new()));
+    for _ in 0..rng.below(4) {
+        ops.push(blind(rng));
+    }
+}
+
+/// A step of right size that was aimed at nothing.
+fn blind(rng: &mut Rng) -> Op {
+    let kind = rng.pick(&Kind::ALL[1..]);
+    let (number, n) = (4_096 + rng.below(64), rng.below(5) as u8);
+    let input = match kind {
+        Kind::Request => ten(2 * rng.below(12) as u8, number, &[n]).to_vec(),
+        _ => block(rng, number),
+    };
+    let (pid, value) = (rng.below(12), rng.byte());
+    Op::Step(call(rng, kind, pid, value, input))
+}

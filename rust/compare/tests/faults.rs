@@ -1,0 +1,262 @@
+//! A stub with a fault is found, by what it did; a stub that differs where it may is not.
+
+use compare::archive::{archive, Lent, Stub};
+use compare::op::{Call, Kind};
+use compare::record::Record;
+use compare::run::Runner;
+use reference::TRAP;
+
+/// What the run says of a stub, if anything.
+fn found(stub: Stub, steps: u64) -> Option<String> {
+    let done = Runner::new(stub, 1, steps).run(|_| {});
+    done.err().map(|failure| failure.difference.what)
+}
+
+fn is_rerr(call: &Call, lent: &Lent<'_>) -> bool {
+    call.kind == Kind::Request && lent.reply.first() == Some(&1)
+}
+
+fn is_type(call: &Call, kind: u8) -> bool {
+    call.kind == Kind::Request && call.input.first() == Some(&kind)
+}
+
+/// Whether a Tcondbreak was accepted.
+fn is_served(call: &Call, lent: &Lent<'_>, number: u8) -> bool {
+    is_type(call, 16) && number == 0 && lent.reply[0] == 17
+}
+
+/// Runs the archive, then the fault, which is told the number and may change the result.
+macro_rules! faulty {
+    (|$call:ident, $lent:ident, $number:ident, $result:ident| $fault:expr) => {
+        |$call: &Call, $lent: &mut Lent<'_>| {
+            let mut $result = archive($call, $lent);
+            let $number = $result as u8;
+            $fault;
+            $result
+        }
+    };
+}
+
+#[test]
+fn the_archive_has_none() {
+    assert_eq!(found(archive, 50_000), None);
+}
+
+#[test]
+fn numbers_and_answers() {
+    let faults: [Stub; 5] = [
+        faulty!(|call, _lent, number, result| if call.kind == Kind::Trap && number == 6 {
+            result = 5;
+        }),
+        faulty!(|call, _lent, number, result| if call.kind == Kind::State && number == 4 {
+            result |= 0x100;
+        }),
+        faulty!(|call, _lent, number, result| if call.kind == Kind::Trap && number == 0 {
+            result ^= 0x0100_0000;
+        }),
+        faulty!(|call, _lent, number, result| if call.kind == Kind::Schedule && number == 0 {
+            result ^= 0x100;
+        }),
+        faulty!(|call, _lent, number, result| if call.kind == Kind::Setup && number == 2 {
+            result = 0;
+        }),
+    ];
+    for fault in faults {
+        assert_eq!(found(fault, 50_000).as_deref(), Some("the number or the answer differs"));
+    }
+}
+
+#[test]
+fn replies_and_inputs() {
+    let reply: Stub = faulty!(|call, lent, number, _result| if is_type(call, 8) && number == 0 {
+        lent.reply[9] ^= 1;
+    });
+    assert_eq!(found(reply, 50_000).as_deref(), Some("the reply differs"));
+    let unused: Stub = faulty!(|call, lent, _number, _result| if call.kind == Kind::Trap {
+        lent.reply.fill(0);
+    });
+    assert_eq!(found(unused, 50_000).as_deref(), Some("the reply differs"));
+    let input: Stub = faulty!(|call, lent, _number, _result| if call.kind == Kind::Schedule {
+        lent.input.iter_mut().for_each(|byte| *byte = !*byte);
+    });
+    assert_eq!(found(input, 50_000).as_deref(), Some("the input was changed"));
+}
+
+#[test]
+fn buffers() {
+    let faults: [(Stub, &str); 5] = [
+        (
+            faulty!(|call, lent, number, _result| if is_type(call, 4) && number == 0 {
+                lent.memory[lent.memory.len() - 1] ^= 1;
+            }),
+            "memory differs",
+        ),
+        (
+            faulty!(|_call, lent, number, _result| if number == 3 && !lent.memory.is_empty() {
+                lent.memory[0] ^= 1;
+            }),
+            "memory differs",
+        ),
+        (
+            faulty!(|call, lent, number, _result| if call.kind == Kind::Setup && number == 0 {
+                lent.memory[3] ^= 1;
+            }),
+            "memory differs",
+        ),
+        (
+            faulty!(|call, lent, _number, _result| if is_rerr(call, lent) {
+                lent.registers[135] ^= 1;
+            }),
+            "the register area differs",
+        ),
+        (
+            faulty!(|call, lent, number, _result| if call.kind == Kind::Restart && number == 0 {
+                lent.registers[0] ^= 1;
+            }),
+            "the register area differs",
+        ),
+    ];
+    for (fault, what) in faults {
+        assert_eq!(found(fault, 50_000).as_deref(), Some(what));
+    }
+}
+
+#[test]
+fn records() {
+    let faults: [Stub; 7] = [
+        faulty!(|call, lent, number, _result| if is_type(call, 12) && number == 0 {
+            lent.record.target_mut().processes[0].wanted ^= 1;
+        }),
+        faulty!(|call, lent, number, _result| if is_type(call, 6) && number == 0 {
+            lent.record.target_mut().current ^= 1;
+        }),
+        faulty!(|call, lent, number, _result| if call.kind == Kind::State && number == 0 {
+            lent.record.target_mut().processes[0].address ^= 1;
+        }),
+        faulty!(|call, lent, number, _result| if is_served(call, lent, number) {
+            lent.record.target_mut().table.entries[1].plain[1] ^= 1;
+        }),
+        faulty!(|call, lent, number, _result| if is_served(call, lent, number) {
+            lent.record.target_mut().table.draft.elements[3].value ^= 1;
+        }),
+        faulty!(|call, lent, number, _result| if call.kind == Kind::Setup && number == 1 {
+            lent.record.target_mut().size = 4;
+        }),
+        // A record that the independent stub cannot hold is compared whole.
+        faulty!(|_call, lent, number, _result| {
+            if number == 3 && lent.record.target().selected > 1 {
+                lent.record.target_mut().table.entries[7].elements[15].letter ^= 1;
+            }
+        }),
+    ];
+    for (i, fault) in faults.into_iter().enumerate() {
+        assert_eq!(found(fault, 200_000).as_deref(), Some("the record differs"), "fault {i}");
+    }
+}
+
+/// What nobody sees may differ after an accepted step, and may not change in a refused one.
+#[test]
+fn what_nobody_sees() {
+    fn forget(lent: &mut Lent<'_>) {
+        for entry in lent.record.target_mut().table.entries.iter_mut().filter(|one| one.used == 0) {
+            (entry.id, entry.site) = (entry.id.wrapping_add(1), !entry.site);
+        }
+    }
+    let accepted: Stub = faulty!(|call, lent, number, _result| {
+        if number == 0 && !is_rerr(call, lent) {
+            forget(lent);
+        }
+    });
+    assert_eq!(found(accepted, 50_000), None);
+    let padding: Stub = faulty!(|call, lent, _number, _result| {
+        // The byte after `selected` is in no field.
+        let at = std::mem::offset_of!(sanirvoq::ffi::Target, selected) + 1;
+        lent.record.bytes_mut()[at] ^= call.fill;
+    });
+    assert_eq!(found(padding, 50_000), None);
+    let rerr: Stub = faulty!(|call, lent, number, _result| {
+        if number == 0 && is_rerr(call, lent) {
+            forget(lent);
+        }
+    });
+    assert_eq!(found(rerr, 50_000).as_deref(), Some("Rerr, but the record was changed"));
+    let refused: Stub = faulty!(|_call, lent, number, _result| if number > 3 {
+        forget(lent);
+    });
+    assert_eq!(found(refused, 50_000).as_deref(), Some("refused, but the record was changed"));
+}
+
+/// Accepts a Tmput and stores nothing.
+fn stores_nothing(call: &Call, lent: &mut Lent<'_>) -> u32 {
+    let (record, memory) = (lent.record.clone(), lent.memory.to_vec());
+    let result = archive(call, lent);
+    if is_type(call, 4) && result == 0 && lent.reply[0] == 5 {
+        *lent.record = record;
+        lent.memory.copy_from_slice(&memory);
+    }
+    result
+}
+
+/// Plants a breakpoint truly where none stands, and only answers where one does.
+fn plants_once(call: &Call, lent: &mut Lent<'_>) -> u32 {
+    let planted = |record: &Record| {
+        record.target().table.entries.iter().filter(|entry| entry.used == 1).count()
+    };
+    let (record, memory) = (lent.record.clone(), lent.memory.to_vec());
+    let result = archive(call, lent);
+    if is_type(call, 16) && planted(&record) == 1 && planted(lent.record) == 2 {
+        *lent.record = record;
+        lent.memory.copy_from_slice(&memory);
+    }
+    result
+}
+
+/// Keeps the plain bytes of plant time, whatever is written.
+fn keeps_plain(call: &Call, lent: &mut Lent<'_>) -> u32 {
+    let before = lent.record.target().table.entries;
+    let result = archive(call, lent);
+    if is_type(call, 4) {
+        let entries = &mut lent.record.target_mut().table.entries;
+        entries.iter_mut().zip(before).for_each(|(entry, old)| entry.plain = old.plain);
+    }
+    result
+}
+
+/// The idle stubs of 01, and its first slip.
+#[test]
+fn idle_stubs() {
+    let always_rerr: Stub = faulty!(|call, lent, number, _result| {
+        if call.kind == Kind::Request && number == 0 {
+            lent.reply.copy_from_slice(b"\x01inval\0\0\0\0");
+        }
+    });
+    let zeros: Stub = faulty!(|call, lent, number, _result| {
+        if call.kind == Kind::Request && number == 0 {
+            lent.reply.fill(0);
+        }
+    });
+    // What was not stored was to be under a trap, or not.
+    let either = ["memory differs", "the record differs"];
+    for (stub, what) in [
+        (always_rerr, &["the reply differs"][..]),
+        (zeros, &["the reply differs"]),
+        (stores_nothing, &either),
+        (plants_once, &either[..1]),
+        (keeps_plain, &either[1..]),
+    ] {
+        let found = found(stub, 50_000);
+        assert!(found.as_deref().is_some_and(|found| what.contains(&found)), "{found:?}");
+    }
+}
+
+/// A fault that shows in a large window only, far from any stretch that a step names.
+#[test]
+fn far_bytes_of_large_windows() {
+    let far: Stub = faulty!(|call, lent, number, _result| {
+        if call.kind == Kind::Trap && number == 0 && lent.memory.len() == 65_536 {
+            let at = if lent.memory[40_000..40_002] == TRAP { 50_000 } else { 40_000 };
+            lent.memory[at] ^= 1;
+        }
+    });
+    assert_eq!(found(far, 1_000_000).as_deref(), Some("memory differs"));
+}

@@ -1,0 +1,187 @@
+//! The archive's functions and records, as `include/sanirvoq.h` has them. What the functions ask of
+//! their caller is said there; the rest of this crate keeps it.
+
+use core::mem::{align_of, offset_of, size_of};
+
+/// The processes that a record has room for.
+pub const PROCESSES: usize = 4;
+/// The breakpoints that a record has room for.
+pub const ENTRIES: usize = 8;
+/// The elements that a condition has room for.
+pub const ELEMENTS: usize = 16;
+
+/// One element of a condition.
+#[repr(C)]
+#[derive(Debug, Clone, Copy, Default, PartialEq, Eq)]
+pub struct Element {
+    /// One of `k p * & = ! a o`.
+    pub letter: u8,
+    /// The value of `k` and `p`, else 0.
+    pub value: u32,
+}
+
+/// A breakpoint.
+#[repr(C)]
+#[derive(Debug, Clone, Copy, Default, PartialEq, Eq)]
+pub struct Entry {
+    /// 0 free, 1 used.
+    pub used: u8,
+    /// Its id.
+    pub id: u8,
+    /// The two bytes of the program under the trap.
+    pub plain: [u8; 2],
+    /// The address of its trap.
+    pub site: u32,
+    /// How many of the elements there are.
+    pub count: u32,
+    /// Its condition.
+    pub elements: [Element; ELEMENTS],
+}
+
+/// The condition in hand.
+#[repr(C)]
+#[derive(Debug, Clone, Copy, Default, PartialEq, Eq)]
+pub struct Draft {
+    /// 1 where there is one, else 0.
+    pub active: u8,
+    /// The id that its breakpoint will have.
+    pub id: u8,
+    /// How many of the elements there are.
+    pub count: u32,
+    /// Its elements so far.
+    pub elements: [Element; ELEMENTS],
+}
+
+/// The breakpoints and the condition in hand.
+#[repr(C)]
+#[derive(Debug, Clone, Copy, Default, PartialEq, Eq)]
+pub struct Table {
+    /// The breakpoints.
+    pub entries: [Entry; ENTRIES],
+    /// The condition in hand.
+    pub draft: Draft,
+}
+
+/// A process.
+#[repr(C)]
+#[derive(Debug, Clone, Copy, Default, PartialEq, Eq)]
+pub struct Process {
+    /// Its pid, at least 1.
+    pub pid: u32,
+    /// Its Proc address.
+    pub address: u32,
+    /// Its state byte: 2 Ready, 8 Stopped.
+    pub state: u8,
+    /// 1 where a stop is wanted, else 0.
+    pub wanted: u8,
+}
+
+/// The record.
+#[repr(C)]
+#[derive(Debug, Clone, Copy, Default, PartialEq, Eq)]
+pub struct Target {
+    /// The address of the window.
+    pub base: u32,
+    /// The bytes of the window.
+    pub size: u32,
+    /// How many of the processes there are.
+    pub count: u32,
+    /// The processes, in the order of their blocks in the register area.
+    pub processes: [Process; PROCESSES],
+    /// 1 where a process is current, else 0.
+    pub selected: u8,
+    /// The pid of the current process.
+    pub current: u32,
+    /// The breakpoints.
+    pub table: Table,
+}
+
+/// A message by its type byte and its fields; see the header for which fields a type uses.
+#[repr(C)]
+#[derive(Debug, Clone, Copy, Default, PartialEq, Eq)]
+pub struct Fields {
+    /// The type byte.
+    pub kind: u8,
+    /// The count of Tmget and Tmput.
+    pub n: u8,
+    /// The letter of Tcondbreak.
+    pub op: u8,
+    /// The state byte of Rstatus, the reason of Rerr.
+    pub code: u8,
+    /// The address, pid or val.
+    pub value: u32,
+    /// The nine of Rmget, the first four of Tmput.
+    pub bytes: [u8; 9],
+}
+
+/// What reading finds.
+#[repr(C)]
+#[derive(Debug, Clone, Copy, Default, PartialEq, Eq)]
+pub struct Found {
+    /// 0, 2 or 7.
+    pub number: u8,
+    /// The message where the number is 0, else all 0.
+    pub fields: Fields,
+}
+
+// The layout, as the header asserts it.
+const _: () = assert!(size_of::<Target>() == 1324 && align_of::<Target>() == 4);
+const _: () = assert!(offset_of!(Target, table) == 68);
+const _: () = assert!(size_of::<Fields>() == 20);
+
+/// The form of every step; see the header for which arguments each uses.
+pub type Step = unsafe extern "C" fn(
+    target: *mut Target,
+    memory: *mut u8,
+    memory_length: usize,
+    registers: *mut u8,
+    registers_length: usize,
+    pid: u32,
+    value: u8,
+    input: *const u8,
+    input_length: usize,
+    reply: *mut u8,
+    reply_length: usize,
+) -> u32;
+
+macro_rules! steps {
+    ($($(#[$doc:meta])* $name:ident),* $(,)?) => {
+        unsafe extern "C" {
+            $($(#[$doc])* pub fn $name(
+                target: *mut Target,
+                memory: *mut u8,
+                memory_length: usize,
+                registers: *mut u8,
+                registers_length: usize,
+                pid: u32,
+                value: u8,
+                input: *const u8,
+                input_length: usize,
+                reply: *mut u8,
+                reply_length: usize,
+            ) -> u32;)*
+        }
+    };
+}
+
+steps!(
+    /// A setup.
+    sanirvoq_step_setup,
+    /// A request.
+    sanirvoq_step_request,
+    /// A trap event.
+    sanirvoq_step_trap,
+    /// A schedule event.
+    sanirvoq_step_schedule,
+    /// A state event.
+    sanirvoq_step_state,
+    /// A restart.
+    sanirvoq_step_restart,
+);
+
+unsafe extern "C" {
+    /// Writes a message's ten bytes.
+    pub fn sanirvoq_write(fields: Fields, buffer: *mut u8, length: usize) -> u8;
+    /// Reads ten bytes.
+    pub fn sanirvoq_read(bytes: *const u8, length: usize) -> Found;
+}

@@ -1,0 +1,54 @@
+//! The proved debug stub, for kernels in Rust.
+//!
+//! The stub itself is the archive `libcapi.a`, which `rt staticlib capi` writes from what the
+//! checker proved. This crate calls it with slices and answers with enums, and has no code of the
+//! stub.
+//!
+//! The kernel keeps a [`Stub`] and lends its memory window and its register area to every step. The
+//! borrow rules give what the archive asks of its caller: buffers that are valid, apart from each
+//! other, and left alone by others during the call. So no call here is unsafe, whatever the record,
+//! the sizes and the bytes are; what does not fit is refused by a [`Refusal`].
+//!
+//! ```
+//! # fn main() -> Result<(), sanirvoq::Refusal> {
+//! use sanirvoq::{Stub, BLOCK, MESSAGE};
+//!
+//! let mut memory: Vec<u8> = (0..64).collect();
+//! let mut registers = vec![0; 2 * BLOCK];
+//! let processes = [(5, 0x8000_1000), (7, 0x8000_2000)];
+//! let mut stub = Stub::setup(0x1000, 64, &processes, &mut memory, &mut registers)?;
+//!
+//! let request = [2, 0, 0, 0x10, 0x04, 4, 0, 0, 0, 0];
+//! let mut reply = [0; MESSAGE];
+//! stub.request(&mut memory, &mut registers, &request, &mut reply)?;
+//! assert_eq!(reply, [3, 4, 5, 6, 7, 0, 0, 0, 0, 0]);
+//! # Ok(())
+//! # }
+//! ```
+//!
+//! Buffers that overlap do not compile:
+//!
+//! ```compile_fail
+//! let mut memory = [0; 136];
+//! sanirvoq::Stub::setup(0x1000, 136, &[(5, 0)], &mut memory, &mut memory);
+//! ```
+
+#![no_std]
+#![deny(unsafe_code, missing_docs)]
+
+#[allow(unsafe_code)]
+mod call;
+#[allow(unsafe_code)]
+pub mod ffi;
+mod message;
+mod refusal;
+mod stub;
+
+pub use message::{read, write, Message, Reason};
+pub use refusal::Refusal;
+pub use stub::{Stub, Verdict};
+
+/// The bytes of a message, of a request and of a reply.
+pub const MESSAGE: usize = 10;
+/// The bytes of one process in the register area: 32 registers, status, pc, four bytes each.
+pub const BLOCK: usize = 136;

@@ -1,0 +1,170 @@
+//! The steps of the stub over slices.
+
+use crate::call::{Lent, Step};
+use crate::ffi::{Process, Target};
+use crate::Refusal;
+
+/// What the kernel is to do with a process that ran into a trap.
+#[derive(Debug, Clone, Copy, PartialEq, Eq)]
+pub enum Verdict {
+    /// The breakpoint of this id stops the process: it is not to run on.
+    Stop(u8),
+    /// The process runs on: these two bytes of the program are to be run elsewhere.
+    Pass([u8; 2]),
+}
+
+/// The stub's record: the window's place, the processes, the breakpoints. It holds no memory and no
+/// registers; the kernel lends both to every step. A step that is refused changes nothing, but for
+/// a setup, which leaves the record empty.
+///
+/// The default is the empty record, which every step but a setup refuses.
+#[derive(Debug, Clone, Default, PartialEq, Eq)]
+pub struct Stub {
+    record: Target,
+}
+
+impl Stub {
+    /// The stub of a window of `size` bytes at `base` and of processes, each a pid and a Proc
+    /// address. Changes neither buffer. Refused with [`Refusal::Setup`] or [`Refusal::Size`].
+    pub fn setup(
+        base: u32,
+        size: u32,
+        processes: &[(u32, u32)],
+        memory: &mut [u8],
+        registers: &mut [u8],
+    ) -> Result<Self, Refusal> {
+        let mut stub = Self::default();
+        stub.setup_in_place(base, size, processes, memory, registers)?;
+        Ok(stub)
+    }
+
+    /// The same over this record, whatever it holds. A refused setup leaves it empty.
+    pub fn setup_in_place(
+        &mut self,
+        base: u32,
+        size: u32,
+        processes: &[(u32, u32)],
+        memory: &mut [u8],
+        registers: &mut [u8],
+    ) -> Result<(), Refusal> {
+        // More than the record has room for is for the archive to refuse, by the count.
+        let count = u32::try_from(processes.len()).unwrap_or(u32::MAX);
+        self.record = Target { base, size, count, ..Target::default() };
+        for (process, &(pid, address)) in self.record.processes.iter_mut().zip(processes) {
+            *process = Process { pid, address, ..Process::default() };
+        }
+        answer(self.lent(memory, registers).call(Step::Setup)).map(drop)
+    }
+
+    /// Serves a request of ten bytes with ten reply bytes, which may be Rerr.
+    /// Refused with [`Refusal::Size`] or [`Refusal::Unfit`].
+    pub fn request(
+        &mut self,
+        memory: &mut [u8],
+        registers: &mut [u8],
+        request: &[u8],
+        reply: &mut [u8],
+    ) -> Result<(), Refusal> {
+        let lent = Lent { input: request, reply, ..self.lent(memory, registers) };
+        answer(lent.call(Step::Request)).map(drop)
+    }
+
+    /// A process ran into a trap, with these 136 bytes of registers. Refused with
+    /// [`Refusal::Size`], `Unfit`, `Unlisted`, `Stopped` or `NoSite`.
+    pub fn trap(
+        &mut self,
+        memory: &mut [u8],
+        registers: &mut [u8],
+        pid: u32,
+        block: &[u8],
+    ) -> Result<Verdict, Refusal> {
+        let lent = Lent { pid, input: block, ..self.lent(memory, registers) };
+        answer(lent.call(Step::Trap)).map(verdict)
+    }
+
+    /// The kernel is about to run a process, with these 136 bytes of registers: whether it is to
+    /// stop instead. Refused with [`Refusal::Size`], `Unfit` or `Unlisted`.
+    pub fn schedule(
+        &mut self,
+        memory: &mut [u8],
+        registers: &mut [u8],
+        pid: u32,
+        block: &[u8],
+    ) -> Result<bool, Refusal> {
+        let lent = Lent { pid, input: block, ..self.lent(memory, registers) };
+        answer(lent.call(Step::Schedule)).map(|[stops, ..]| stops == 1)
+    }
+
+    /// The kernel gives a process another state byte. Refused with [`Refusal::Size`], `Unfit`,
+    /// `Unlisted` or `Stopped`.
+    pub fn state(
+        &mut self,
+        memory: &mut [u8],
+        registers: &mut [u8],
+        pid: u32,
+        value: u8,
+    ) -> Result<(), Refusal> {
+        let lent = Lent { pid, value, ..self.lent(memory, registers) };
+        answer(lent.call(Step::State)).map(drop)
+    }
+
+    /// The debug session begins anew: every trap's plain bytes go back. The reply is Rerr reset.
+    /// Refused with [`Refusal::Size`] or [`Refusal::Unfit`].
+    pub fn restart(
+        &mut self,
+        memory: &mut [u8],
+        registers: &mut [u8],
+        reply: &mut [u8],
+    ) -> Result<(), Refusal> {
+        let lent = Lent { reply, ..self.lent(memory, registers) };
+        answer(lent.call(Step::Restart)).map(drop)
+    }
+
+    /// A stub of any record: one that is not fit is refused by every step.
+    pub fn from_raw(record: Target) -> Self {
+        Self { record }
+    }
+
+    /// The record.
+    pub fn raw(&self) -> &Target {
+        &self.record
+    }
+
+    /// What every step is lent.
+    fn lent<'a>(&'a mut self, memory: &'a mut [u8], registers: &'a mut [u8]) -> Lent<'a> {
+        let record = &mut self.record;
+        Lent { record, memory, registers, pid: 0, value: 0, input: &[], reply: &mut [] }
+    }
+}
+
+/// The three bytes of an accepted step's answer.
+fn answer(result: u32) -> Result<[u8; 3], Refusal> {
+    let [number, answer @ ..] = result.to_le_bytes();
+    Refusal::check(number).map(|()| answer)
+}
+
+/// The answer of an accepted trap. It is proved to be one of these.
+fn verdict(answer: [u8; 3]) -> Verdict {
+    match answer {
+        [1, id, _] => Verdict::Stop(id),
+        [2, first, second] => Verdict::Pass([first, second]),
+        other => unreachable!("the archive answered a trap with {other:?}"),
+    }
+}
+
+#[cfg(test)]
+mod tests {
+    use super::*;
+
+    #[test]
+    fn a_result_has_the_number_lowest() {
+        assert_eq!(answer(0x0908_0200), Ok([2, 8, 9]));
+        assert_eq!(answer(6), Err(Refusal::NoSite));
+    }
+
+    #[test]
+    fn a_trap_answers_stop_or_pass() {
+        assert_eq!(verdict([1, 255, 0]), Verdict::Stop(255));
+        assert_eq!(verdict([2, 8, 9]), Verdict::Pass([8, 9]));
+    }
+}

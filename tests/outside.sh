@@ -1,0 +1,90 @@
+#!/usr/bin/env bash
+# Checks the proved stub from outside, as kernels in C and Rust call it. Run it after the gate (.ci/run).
+#     tests/outside.sh
+# Makes target/staticlib/libcapi.a from what the gate proved, or takes the libcapi.a of the folder SANIRVOQ_LIB.
+# A check prints 'ok NAME' or 'FAILED NAME'; what it wrote is in target/outside/NAME.log.
+# Needs rt, cargo, gcc, g++, valgrind and python3. The last line is 'N passed, M failed'; exit status 1 unless M is 0.
+set -uo pipefail
+if [ -n "${SANIRVOQ_LIB:-}" ]; then
+    SANIRVOQ_LIB=$(realpath -m -- "$SANIRVOQ_LIB")
+    export SANIRVOQ_LIB
+else
+    unset SANIRVOQ_LIB
+fi
+# Programs are looked for in each crate's own target folder.
+unset CARGO_TARGET_DIR
+cd "$(dirname "$0")/.." || exit 1
+library=${SANIRVOQ_LIB:-target/staticlib}/libcapi.a
+logs=target/outside
+passed=0
+failed=0
+
+# A check: its name and its command.
+check() {
+    local name=$1 start=$SECONDS
+    shift
+    if "$@" > "$logs/$name.log" 2>&1; then
+        passed=$((passed + 1))
+        echo "ok $name ($((SECONDS - start)) s)"
+    else
+        failed=$((failed + 1))
+        echo "FAILED $name ($((SECONDS - start)) s), see $logs/$name.log"
+    fi
+}
+
+# cargo COMMAND CRATE [WORDS...]
+crate() {
+    local command=$1 name=$2
+    shift 2
+    cargo "$command" --release --offline --manifest-path "rust/$name/Cargo.toml" "$@"
+}
+
+# Optimizing at link time takes most of a test's build and tests nothing more.
+tests_of() {
+    CARGO_PROFILE_RELEASE_LTO=off crate test "$1"
+}
+
+c11() {
+    gcc -std=c11 -Wall -Wextra -Wpedantic -Werror "$@"
+}
+
+under_valgrind() {
+    valgrind --error-exitcode=9 --leak-check=full --errors-for-leak-kinds=definite "$@"
+}
+
+library() {
+    { [ -n "${SANIRVOQ_LIB:-}" ] || rt staticlib capi; } && ls -l "$library"
+}
+
+example_c() {
+    c11 -O2 -Iinclude examples/kernel.c "$library" -o "$logs/kernel_c" &&
+        "$logs/kernel_c" > "$logs/kernel_c.txt" &&
+        diff examples/kernel.txt "$logs/kernel_c.txt"
+}
+
+example_rust() {
+    crate run sanirvoq --example kernel > "$logs/kernel_rust.txt" &&
+        diff examples/kernel.txt "$logs/kernel_rust.txt"
+}
+
+rm -rf "$logs"
+mkdir -p "$logs" || exit 1
+check library library
+check header_c c11 -fsyntax-only -x c include/sanirvoq.h
+check header_cpp g++ -Wall -Werror -fsyntax-only -x c++ include/sanirvoq.h
+check example_c example_c
+check example_c_valgrind under_valgrind "$logs/kernel_c"
+check example_rust example_rust
+check examples_equal diff "$logs/kernel_c.txt" "$logs/kernel_rust.txt"
+check wrapper tests_of sanirvoq
+check reference tests_of reference
+[ ! -f tests/wire_vectors.py ] || check wire_vectors python3 tests/wire_vectors.py --check
+[ ! -f tests/stub_vectors.py ] || check stub_vectors python3 tests/stub_vectors.py --check
+if [ -f rust/compare/Cargo.toml ]; then
+    check compare_tests tests_of compare
+    check compare crate run compare -- --seed 1 --steps 300000
+    check compare_valgrind under_valgrind rust/compare/target/release/compare --seed 2 --steps 3000
+fi
+[ ! -f rust/bench/Cargo.toml ] || check bench crate build bench
+echo "$passed passed, $failed failed"
+[ "$failed" -eq 0 ]
