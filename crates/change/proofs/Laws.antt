@@ -17,8 +17,9 @@ use Rattle.target.specs.declared.Draft.{Draft}
 use Rattle.target.specs.declared.Entry.{Entry}
 use Rattle.target.specs.declared.Table.{Table}
 use Rattle.target.specs.declared.Target.{Target}
-use Rattle.target.proofs.Shape.{table-entries, target-table}
-use Rattle.target.proofs.Target as target
+use Rattle.target.proofs.Shape.{table-entries}
+use Rattle.target.proofs.Table as table
+use Rattle.change.specs.Table.{withEntry}
 
 -- ---- the state set, then the mark
 
@@ -38,14 +39,9 @@ module _ (t : Target) (i state wanted : ℕ) where
 
 -- ---- an entry stored
 
-abbrev pub withEntry : Table → ℕ → Entry → Table
-withEntry t k e = record { entries = set (t .entries) k e; draft = t .draft }
-
 -- past the entries there is nothing to store to
-pub not-stored : (t : Target) (vs : List Val) (k : ℕ) (e : Entry) → Is target.the-row t vs → 8 ≤ k → t .table ≡ withEntry (t .table) k e
-not-stored t vs k e h l =
-    let (_, u) = target-table t vs h in
-    rw (set-out (t .table .entries) k e (omega (arith, table-entries (t .table) _ u)))
+pub not-stored : (u : Table) (vs : List Val) (k : ℕ) (e : Entry) → Is table.the-row u vs → 8 ≤ k → u ≡ withEntry u k e
+not-stored u vs k e h l = rw (set-out (u .entries) k e (omega (arith, table-entries u _ h)))
 
 -- ---- entries with their plain bytes taken from the slots' bytes, one after the other
 

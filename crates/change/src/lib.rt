@@ -7,11 +7,13 @@ use target::Table;
 use target::Target;
 ghost use mathlib.Core.Path.{_≡_};
 ghost use mathlib.Core.List.{[]};
-ghost use Rattle.rules.specs.Record.{withDraft, setState};
+ghost use Rattle.rules.specs.Record.{setState};
 ghost use Rattle.rules.specs.Condition.{begun as begunOf};
 ghost use Rattle.rules.specs.Request.{withPlains};
-ghost use Rattle.rules.specs.Change.{without as withoutOf, applied};
+ghost use Rattle.rules.specs.Change.{applied};
 ghost use Rattle.rules.specs.declared.Change.the-variants as change;
+ghost use Rattle.target.specs.Fresh.{freshEntry};
+ghost use Rattle.change.specs.Table.{withHand, withEntry, tableAfter};
 
 // The state and the mark of one process set.
 pub fn set_state(t: Target, i: usize, state: u8, wanted: u8) -> Target
@@ -42,13 +44,11 @@ fn with_plains(t: Table, plain: [u8; 16]) -> Table
 }
 
 // Another condition in hand.
-fn with_draft(t: Target, d: Draft) -> Target
-    ensures { λ r. ⌜ r ≡ withDraft t d ⌝ }
+fn with_draft(t: Table, d: Draft) -> Table
+    ensures { λ r. ⌜ r ≡ withHand t d ⌝ }
 {
-    let mut table = t.table;
-    table.draft = d;
     let mut u = t;
-    u.table = table;
+    u.draft = d;
     u
 }
 
@@ -63,27 +63,25 @@ fn begun(id: u8) -> Draft
 }
 
 // Without the breakpoint at an index.
-fn without(t: Target, k: usize) -> Target
-    ensures { λ r. ⌜ r ≡ withoutOf t k ⌝ }
+fn without(t: Table, k: usize) -> Table
+    ensures { λ r. ⌜ r ≡ withEntry t k freshEntry ⌝ }
 {
-    let mut table = t.table;
+    let mut u = t;
     if k < 8 {
         let free = Entry::free();
-        table.entries[k] = free;
+        u.entries[k] = free;
     }
-    let mut u = t;
-    u.table = table;
     u
 }
 
 // The condition in hand as a breakpoint, in the free entry of the lowest index.
-fn plant(t: Target, site: u32, b0: u8, b1: u8) -> Target
-    ensures { λ r. ⌜ r ≡ applied t (change.Plant site b0 b1) [] ⌝ }
+fn plant(t: Table, site: u32, b0: u8, b1: u8) -> Table
+    ensures { λ r. ⌜ r ≡ tableAfter t (change.Plant site b0 b1) [] ⌝ }
 {
-    let mut table = t.table;
-    let d = table.draft;
+    let mut u = t;
+    let d = t.draft;
     let elements = d.elements;
-    let k = table.first_free();
+    let k = t.first_free();
     if k < 8 {
         let e = Entry {
             used: 1,
@@ -93,13 +91,34 @@ fn plant(t: Target, site: u32, b0: u8, b1: u8) -> Target
             count: d.count,
             elements: elements,
         };
-        table.entries[k] = e;
+        u.entries[k] = e;
     }
     let none = Draft::closed();
-    table.draft = none;
-    let mut u = t;
-    u.table = table;
+    u.draft = none;
     u
+}
+
+// The table after a change of it.
+fn change_table(t: Table, c: Change, plain: [u8; 16]) -> Table
+    ensures { λ r. ⌜ r ≡ tableAfter t c plain ⌝ }
+{
+    match c {
+        Change::Plain => with_plains(t, plain),
+        Change::Begin(id) => with_draft(t, begun(id)),
+        Change::Add(letter, value) => {
+            let d = t.draft;
+            let added = condition::add(d, Element { letter, value });
+            let more = added.draft;
+            with_draft(t, more)
+        }
+        Change::Drop => with_draft(t, Draft::closed()),
+        Change::Plant(site, b0, b1) => plant(t, site, b0, b1),
+        Change::Remove(k) => without(t, k),
+        Change::Start(_, k) => without(t, k),
+        Change::Same => t,
+        Change::Current(_) => t,
+        Change::State(_, _, _) => t,
+    }
 }
 
 // The record after a change.
@@ -108,13 +127,6 @@ pub fn apply(t: Target, c: Change, plain: [u8; 16]) -> Target
 {
     match c {
         Change::Same => t,
-        Change::Plain => {
-            let table = t.table;
-            let after = with_plains(table, plain);
-            let mut u = t;
-            u.table = after;
-            u
-        }
         Change::Current(pid) => {
             let mut u = t;
             u.selected = 1;
@@ -122,17 +134,19 @@ pub fn apply(t: Target, c: Change, plain: [u8; 16]) -> Target
             u
         }
         Change::State(i, state, wanted) => set_state(t, i, state, wanted),
-        Change::Begin(id) => with_draft(t, begun(id)),
-        Change::Add(letter, value) => {
+        Change::Start(i, _) => {
+            let mut u = set_state(t, i, 2, 0);
             let table = t.table;
-            let d = table.draft;
-            let added = condition::add(d, Element { letter, value });
-            let more = added.draft;
-            with_draft(t, more)
+            let after = change_table(table, c, plain);
+            u.table = after;
+            u
         }
-        Change::Drop => with_draft(t, Draft::closed()),
-        Change::Plant(site, b0, b1) => plant(t, site, b0, b1),
-        Change::Remove(k) => without(t, k),
-        Change::Start(i, k) => without(set_state(t, i, 2, 0), k),
+        _ => {
+            let mut u = t;
+            let table = t.table;
+            let after = change_table(table, c, plain);
+            u.table = after;
+            u
+        }
     }
 }

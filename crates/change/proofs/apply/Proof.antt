@@ -1,18 +1,40 @@
--- `change::apply` meets its contract: each change is the definition's line for it. Assumes nothing.
+-- `change::apply` meets its contract: a change of the table or of what stands beside it is the definition's line for it. Assumes nothing.
+use mathlib.Core.Path.{_≡_, refl}
+use mathlib.Core.Bool.{true}
+use mathlib.Core.List.{List, [], _∷_}
+use Prim.Native.Nat.{ℕ}
 use borrow.Author.Needs.{needs}
+use denote.Enum.Declared.{tagOf}
+use Rattle.common.specs.Keys.{among}
+use Rattle.common.proofs.Keys.{among-yes}
+use Rattle.common.proofs.Same.{true-or-false}
 use Rattle.rules.specs.Change.{applied}
-use Rattle.rules.specs.Record.{withTable, withEntries, withCurrent}
+use Rattle.rules.specs.Record.{withTable, withEntries, withDraft, withCurrent, withProcesses, setState}
+use Rattle.rules.specs.declared.Change.{Change}
+use Rattle.rules.specs.declared.Change.the-variants.{Same, Plain, Current, State, Begin, Add, Drop, Plant, Remove, Start}
+use Rattle.rules.proofs.Change.{the-type}
+use Rattle.target.specs.declared.Target.{Target}
+use Rattle.change.specs.Table.{tableAfter}
 use Rattle.change.proofs.apply.Statement.{statement}
 use Rattle.change.proofs.apply.Tie as tie
 
+-- a change of the table alone; a tag is the variant's place
+of-table : (t : Target) (c : Change) (plain : List ℕ) → among (1 ∷ 4 ∷ 5 ∷ 6 ∷ 7 ∷ 8 ∷ []) (tagOf the-type c) ≡ true
+    → withTable t (tableAfter (t .table) c plain) ≡ applied t c plain
+unfolding among applied tableAfter withTable withEntries withDraft
+of-table t Same plain e = true-or-false e
+of-table t Plain plain e = refl
+of-table t (Current pid) plain e = true-or-false e
+of-table t (State i state wanted) plain e = true-or-false e
+of-table t (Begin id) plain e = refl
+of-table t (Add letter value) plain e = refl
+of-table t Drop plain e = refl
+of-table t (Plant site b0 b1) plain e = refl
+of-table t (Remove k) plain e = refl
+of-table t (Start i k) plain e = true-or-false e
+
 enum-told : tie.Need-enum-told
 enum-told c = search needs
-
-enum-told-2 : tie.Need-enum-told-2
-enum-told-2 c = search needs
-
-with-plains-requires : tie.Need-with-plains-requires
-with-plains-requires c κs = search needs
 
 enum-known-c : tie.Need-enum-known-c
 enum-known-c c = search needs
@@ -26,126 +48,51 @@ set-state-requires c κs = search needs
 enum-known-c-3 : tie.Need-enum-known-c-3
 enum-known-c-3 c = search needs
 
-begun-requires : tie.Need-begun-requires
-begun-requires c κs = search needs
-
-with-draft-requires : tie.Need-with-draft-requires
-with-draft-requires c κs = search needs
-
-enum-known-c-4 : tie.Need-enum-known-c-4
-enum-known-c-4 c = search needs
-
-add-requires : tie.Need-add-requires
-add-requires c κs = search needs
-
-with-draft-requires-2 : tie.Need-with-draft-requires-2
-with-draft-requires-2 c κs = search needs
-
-enum-told-3 : tie.Need-enum-told-3
-enum-told-3 c = search needs
-
-closed-requires : tie.Need-closed-requires
-closed-requires c κs = search needs
-
-with-draft-requires-3 : tie.Need-with-draft-requires-3
-with-draft-requires-3 c κs = search needs
-
-enum-known-c-5 : tie.Need-enum-known-c-5
-enum-known-c-5 c = search needs
-
-plant-requires : tie.Need-plant-requires
-plant-requires c κs = search needs
-
-enum-known-c-6 : tie.Need-enum-known-c-6
-enum-known-c-6 c = search needs
-
-without-requires : tie.Need-without-requires
-without-requires c κs = search needs
-
-enum-known-c-7 : tie.Need-enum-known-c-7
-enum-known-c-7 c = search needs
-
 set-state-requires-2 : tie.Need-set-state-requires-2
 set-state-requires-2 c κs = search needs
 
-without-requires-2 : tie.Need-without-requires-2
-without-requires-2 c κs = search needs
+change-table-requires : tie.Need-change-table-requires
+change-table-requires c κs = search needs
+
+change-table-requires-2 : tie.Need-change-table-requires-2
+change-table-requires-2 c κs = search needs
 
 returns : tie.Need-returns
 unfolding applied
 returns c = rw (c .enum-told .given .1)
 
 returns-2 : tie.Need-returns-2
-unfolding applied withEntries withTable
-returns-2 c = rw (c .before .before .enum-told2 .given .1, c .with-plains .ensures)
+unfolding applied withCurrent
+returns-2 c = rw (c .before .c .given .1)
 
 returns-3 : tie.Need-returns-3
-unfolding applied withCurrent
-returns-3 c = rw (c .before .c .given .1)
+unfolding applied
+returns-3 c = rw (c .before .before .c2 .given .1) (c .set-state .ensures)
 
 returns-4 : tie.Need-returns-4
-unfolding applied
-returns-4 c = rw (c .before .before .c2 .given .1) (c .set-state .ensures)
+unfolding applied tableAfter withEntries withTable setState withProcesses
+returns-4 c =
+    let s = c .before .before in
+    rw (c .change-table .ensures, s .set-state2 .ensures, s .before .before .c3 .given .1)
 
 returns-5 : tie.Need-returns-5
-unfolding applied
-returns-5 c = rw (c .before .before .before .c3 .given .1) (rw (c .before .begun .ensures) at (c .with-draft .ensures))
-
-returns-6 : tie.Need-returns-6
-unfolding applied
-returns-6 c =
-    let a = c .before .before in
-    rw (a .before .before .before .before .c4 .given .1, ← a .add .ensures) (c .with-draft2 .ensures)
-
-returns-7 : tie.Need-returns-7
-unfolding applied
-returns-7 c = rw (c .before .before .enum-told3 .given .1) (rw (c .before .closed .ensures) at (c .with-draft3 .ensures))
-
-returns-8 : tie.Need-returns-8
-unfolding applied
-returns-8 c = rw (c .before .before .c5 .given .1) (c .plant .ensures)
-
-returns-9 : tie.Need-returns-9
-unfolding applied
-returns-9 c = rw (c .before .before .c6 .given .1) (c .without .ensures)
-
-returns-10 : tie.Need-returns-10
-unfolding applied
-returns-10 c = rw (c .before .before .before .c7 .given .1) (rw (c .before .set-state2 .ensures) at (c .without2 .ensures))
+unfolding withTable
+returns-5 c = rw (c .change-table2 .ensures) (of-table _ _ _ (among-yes _ _ (c .before .before .match .keys5)))
 
 pub apply-spec : {M : Type 1} → statement M
 apply-spec =
     tie.close
     (tie.spec
     enum-told
-    enum-told-2
-    with-plains-requires
     enum-known-c
     enum-known-c-2
     set-state-requires
     enum-known-c-3
-    begun-requires
-    with-draft-requires
-    enum-known-c-4
-    add-requires
-    with-draft-requires-2
-    enum-told-3
-    closed-requires
-    with-draft-requires-3
-    enum-known-c-5
-    plant-requires
-    enum-known-c-6
-    without-requires
-    enum-known-c-7
     set-state-requires-2
-    without-requires-2
+    change-table-requires
+    change-table-requires-2
     returns
     returns-2
     returns-3
     returns-4
-    returns-5
-    returns-6
-    returns-7
-    returns-8
-    returns-9
-    returns-10)
+    returns-5)

@@ -5,9 +5,8 @@ use mathlib.Core.List.{[], _∷_}
 use mathlib.Core.Logic.{⊎-elim}
 use borrow.Author.Needs.{needs}
 use Rattle.rules.specs.Breakpoint.{entryWith}
-use Rattle.rules.specs.Change.{applied}
-use Rattle.rules.specs.Record.{withTable}
-use Rattle.change.proofs.Laws.{withEntry, not-stored}
+use Rattle.change.specs.Table.{withEntry, tableAfter}
+use Rattle.change.proofs.Laws.{not-stored}
 use Rattle.change.proofs.plant.Statement.{statement}
 use Rattle.change.proofs.plant.Tie as tie
 
@@ -25,15 +24,15 @@ closed-requires c κs = search needs
 
 -- the table after the branch
 table-after : (c : tie.Joined1)
-    → let a = c .before .before .before .before .before .args in
-    c .if1 .table
-    ≡ withEntry (a .t .table) (c .before .first-free .result) (entryWith (a .t .table .draft) (a .site) (a .b0 ∷ a .b1 ∷ []))
+    → let a = c .before .before .before .before .args in
+    c .if1 .u
+    ≡ withEntry (a .t) (c .before .first-free .result) (entryWith (a .t .draft) (a .site) (a .b0 ∷ a .b1 ∷ []))
 table-after c =
-    let s = c .before .before .before .before .before in
+    let s = c .before .before .before .before in
     ⊎-elim (λ w. w .1) (λ w. w .1 ∙ not-stored (s .args .t) _ _ _ (s .good .0) (w .0 .left)) (c .if1 .came)
 
 returns : tie.Need-returns
-unfolding applied withTable
+unfolding tableAfter
 returns c = rw (c .closed .ensures, table-after (c .before), c .before .before .first-free .ensures)
 
 pub plant-spec : {M : Type 1} → statement M
