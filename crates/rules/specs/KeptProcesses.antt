@@ -13,6 +13,7 @@ use Rattle.common.specs.Tab.{tab}
 use Rattle.common.proofs.Every.{every-at, every-all, every-ext}
 use Rattle.common.proofs.First.{first-set}
 use Rattle.common.proofs.Tab.{length-tab, tab-at}
+use Rattle.fit.proofs.Laws.{processes-few}
 use Rattle.fit.specs.Fit.{stopped, processAt, pidFit, processesFit, markFit, marksFit, processOf, currentFit}
 use Rattle.common.proofs.Cases.{on-test, on-same}
 use Rattle.target.specs.Fresh.{noProcess}
@@ -20,7 +21,6 @@ use Rattle.target.specs.declared.Process.{Process}
 use Rattle.rules.specs.Record.{ready, withState, isStopped}
 use Rattle.rules.specs.Event.{restarted}
 use Rattle.rules.specs.Step.{beginning}
-use Rattle.rules.specs.FitFacts.{parts}
 use Rattle.rules.specs.Parts.{ProcessParts}
 
 -- ---- marks
@@ -57,11 +57,6 @@ module _ (ps qs : List Process) (n : ℕ) (same : (i : ℕ) → i < n → proces
   unfolding processesFit
   pids-same = ap (λ (b : Bool). leb 1 n && leb n 4 && b) (every-ext n (pidFit qs) (pidFit ps) pid-same)
 
--- there are at most four
-pub few : (ps : List Process) (n : ℕ) → processesFit ps n ≡ true → n ≤ 4
-unfolding processesFit
-few ps n e = search parts
-
 -- ---- the state and the mark of one process
 
 module _ (ps : List Process) (n selected pid : ℕ) (c : ProcessParts ps n selected pid)
@@ -70,7 +65,7 @@ module _ (ps : List Process) (n selected pid : ℕ) (c : ProcessParts ps n selec
   now = withState (processAt ps i) s m
 
   inside : i < length ps
-  inside = omega (arith, c .four, few ps n (c .pids))
+  inside = omega (arith, c .four, processes-few ps n (c .pids))
 
   -- what holds of it and of the others holds of each
   each : (P : Process → Type 0) (j : ℕ) → (j ≡ i → P now) → ((j ≡ i → ⊥) → P (processAt ps j)) → P (processAt (set ps i now) j)
@@ -105,7 +100,7 @@ module _ (ps : List Process) (n selected pid : ℕ) (c : ProcessParts ps n selec
   begun = map restarted (take n ps) ++ drop n ps
 
   small : n ≤ 4
-  small = few ps n (c .pids)
+  small = processes-few ps n (c .pids)
 
   -- each process is restarted
   begun-at : (i : ℕ) → i < n → processAt begun i ≡ restarted (processAt ps i)
@@ -145,6 +140,6 @@ module _ (pids addresses : List ℕ) (n : ℕ) where
     four = length-tab 4 (beginning pids addresses n);
     pids = e;
     marks = every-all n _
-        (λ i h. rw (tab-at 4 (beginning pids addresses n) noProcess i (omega (arith, few _ n e)), lt-ltb i n h) (mark-none ready));
+        (λ i h. rw (tab-at 4 (beginning pids addresses n) noProcess i (omega (arith, processes-few _ n e)), lt-ltb i n h) (mark-none ready));
     current = refl;
   }
