@@ -1,5 +1,5 @@
 -- Laws of the current process's block, of a record that is ready, and of what a read answers and a write leaves. Assumes nothing.
-use mathlib.Core.Path.{_≡_, refl, ap, _∙_}
+use mathlib.Core.Path.{_≡_, refl, sym, ap, _∙_}
 use mathlib.Core.Bool.{Bool, true, false, cond, _&&_}
 use mathlib.Core.List.{List}
 use Prim.Native.Nat.{ℕ, _+_, _-_, _*_, _<_, _≤_}
@@ -7,13 +7,18 @@ use native.Mathlib.Omega.{arith}
 use borrow.Author.Tests.{eq-eqb, ne-eqb, le-leb, lt-leb, ltb-true, leb-true}
 use lib.Dec.{eqb, ltb, leb}
 use lib.ListN.{length, take, replicate}
+use mir.Val.{Val}
+use denote.Laws.{Is}
 use Rattle.common.specs.Every.{every}
-use Rattle.common.proofs.Same.{and-both}
+use Rattle.common.specs.Same.{sameList}
+use Rattle.common.proofs.Same.{and-both, same-eq}
+use Rattle.common.proofs.Tab.{length-tab}
+use Rattle.memory.specs.Head.{house}
 use Rattle.memory.specs.Place.{placeOf}
 use Rattle.memory.specs.declared.Place.{Place}
 use Rattle.memory.specs.declared.Place.the-variants.{Registers, Window}
 use Rattle.memory.specs.Write.{bytesAt, readOf, overwritten, memAfter, plainAfter}
-use Rattle.fit.specs.Fit.{processAt, pidFit, processesFit, currentFit}
+use Rattle.fit.specs.Fit.{processAt, entryAt, pidFit, processesFit, currentFit}
 use Rattle.fit.specs.declared.Scan.{Scan}
 use Rattle.rules.specs.declared.Answer.the-variants.{Nothing}
 use Rattle.rules.specs.declared.Change.the-variants.{Plain}
@@ -22,9 +27,13 @@ use Rattle.rules.specs.Change.{applied}
 use Rattle.rules.specs.FitFacts.{tests-of}
 use Rattle.rules.specs.Outcome.{World, world, Outcome, outcome, replied, error}
 use Rattle.rules.specs.Ready.{Ready}
-use Rattle.rules.specs.Record.{indexOf, isStopped}
-use Rattle.rules.specs.Request.{onBlock, data9Of, gotFrom, mget, mput, windowWritten, putTo}
+use Rattle.rules.specs.Record.{withTable, withEntries, indexOf, isStopped}
+use Rattle.rules.specs.Request.{onBlock, data9Of, gotFrom, mget, mput, withPlains, windowWritten, putTo}
+use Rattle.rules.specs.Slots.{TwoEach, length-plains, with-plains}
+use Rattle.target.specs.declared.Entry.{Entry}
 use Rattle.target.specs.declared.Target.{Target}
+use Rattle.target.proofs.Shape.{entry-shape, table-entries, table-entry, target-table}
+use Rattle.target.proofs.Target as target
 use Rattle.wire.specs.Message.{bytes4, bytesOf}
 use Rattle.wire.specs.declared.Data4.{Data4}
 use Rattle.wire.specs.declared.Message.the-variants.{Rerr, Rmget, Rmput}
@@ -87,7 +96,7 @@ block-within t regs i l e =
 
 -- ---- a record that is ready
 
-module _ (t : Target) (s : Scan) (mem regs : List ℕ) (r : Ready t s mem regs) where
+module _ (t : Target) (s : Scan) (mem regs : List ℕ) (r : Ready house t s mem regs) where
   few : (1 ≤ t .count) × (t .count ≤ 4)
   unfolding processesFit
   few =
@@ -140,6 +149,25 @@ module _ (w : World) (addr n : ℕ) where
   unfolding mget
   got-from z q e x h = rw (ne-eqb n 0 z, e) h
 
+-- ---- the plain bytes of a record's table
+
+-- every entry of a record of the code has two plain bytes
+pub two-each : (t : Target) (vs : List Val) → Is target.the-row t vs → TwoEach (t .table .entries)
+two-each t vs h k l =
+    let (_, u) = target-table t vs h in
+    let (_, e) = table-entry (t .table) _ k u (omega (arith, table-entries (t .table) _ u)) in
+    entry-shape (entryAt (t .table .entries) k) _ e .plain
+
+-- so a scan's plain bytes are sixteen, before a write and after it
+pub sixteen : (t : Target) (vs : List Val) (s : Scan) (mem regs : List ℕ) → Is target.the-row t vs → Ready house t s mem regs → 16 ≡ length (s .plain)
+sixteen t vs s mem regs h r =
+    let (_, u) = target-table t vs h in
+    omega (arith, ap length (r .plain), length-plains (t .table .entries) (two-each t vs h), table-entries (t .table) _ u)
+
+pub length-after : (w : ℕ) (ss ps : List ℕ) (at : ℕ) (bytes plain : List ℕ) → plain ≡ plainAfter w ss ps at bytes → length ps ≡ length plain
+unfolding plainAfter
+length-after w ss ps at bytes plain e = sym (ap length e ∙ length-tab (length ps) _)
+
 -- ---- what a write leaves
 
 module _ (w : World) (addr : ℕ) (bytes : List ℕ) where
@@ -158,13 +186,22 @@ module _ (w : World) (addr : ℕ) (bytes : List ℕ) where
   unfolding putTo replied onIt
   put-block h i b regs reply e r = rw (e, r, lt-leb addr 3 h) (on-it w _ (At i) b)
 
-  -- the window's bytes, and the table with the slots' bytes taken
-  pub put-window : (ss ps : List ℕ) → ss ≡ sites (w .target) → ps ≡ plains (w .target) → (mem plain reply : List ℕ)
-      → mem ≡ memAfter 2 ss (w .mem) (addr - w .target .base) bytes → plain ≡ plainAfter 2 ss ps (addr - w .target .base) bytes
-      → reply ≡ bytesOf Rmput
-      → outcome 0 Nothing (world (applied (w .target) Plain plain) mem (w .regs)) reply ≡ putTo Window w addr bytes
-  unfolding putTo replied windowWritten applied
-  put-window ss ps e f mem plain reply m p r = rw (m, p, r, e, f)
+  module _ (ss ps : List ℕ) (e : ss ≡ sites (w .target)) (f : ps ≡ plains (w .target)) (mem plain reply : List ℕ)
+      (m : mem ≡ memAfter 2 ss (w .mem) (addr - w .target .base) bytes) (p : plain ≡ plainAfter 2 ss ps (addr - w .target .base) bytes)
+      (r : reply ≡ bytesOf Rmput) where
+    -- the window's bytes, and the table with the slots' bytes taken
+    pub put-window : outcome 0 Nothing (world (applied (w .target) Plain plain) mem (w .regs)) reply ≡ putTo Window w addr bytes
+    unfolding putTo replied windowWritten applied
+    put-window = rw (m, p, r, e, f)
+
+    -- where no slot's byte changed, the record is as it was
+    pub put-same : TwoEach (w .target .table .entries) → sameList ps plain ≡ true
+        → outcome 0 Nothing (world (w .target) mem (w .regs)) reply ≡ putTo Window w addr bytes
+    unfolding applied withEntries withTable
+    put-same two same =
+        let es = w .target .table .entries in
+        let kept : withPlains es plain ≡ es = ap (withPlains es) (sym (same-eq ps plain same) ∙ f) ∙ with-plains es two in
+        ap (λ (l : List Entry). outcome 0 Nothing (world (withEntries (w .target) l) mem (w .regs)) reply) (sym kept) ∙ put-window
 
 module _ (w : World) (addr n : ℕ) (d : Data4) where
   pub put-none : n ≡ 0 → (reply : List ℕ) → reply ≡ bytesOf Rmput → outcome 0 Nothing w reply ≡ mput w addr n d

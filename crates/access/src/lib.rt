@@ -12,6 +12,7 @@ ghost use mathlib.Core.Path.{_≡_};
 ghost use mathlib.Core.List.{List};
 ghost use Prim.Native.Nat.{ℕ, _+_, _≤_};
 ghost use lib.ListN.{length};
+ghost use Rattle.memory.specs.Head.{house};
 ghost use Rattle.memory.specs.Place.{placeOf};
 ghost use Rattle.memory.specs.declared.Place.the-variants as place;
 ghost use Rattle.wire.specs.Message.{bytesOf};
@@ -87,7 +88,7 @@ fn get_registers<'a>(t: Target, mem: &'a [u8], regs: &'a [u8], addr: u32, n: u8)
 
 // A read of the window.
 fn get_window<'a>(t: Target, s: Scan, mem: &'a [u8], regs: &'a [u8], addr: u32, n: u8) -> [u8; 10]
-    requires { ⌜ Ready t s (now mem) (now regs) ⌝ }
+    requires { ⌜ Ready house t s (now mem) (now regs) ⌝ }
     requires { ⌜ placeOf (t .base) (t .size) addr n ≡ place.Window ⌝ }
     ensures { λ r. ⌜ outcome 0 Nothing (world t (now (mem .entry)) (now (regs .entry))) r ≡ gotFrom place.Window (world t (now (mem .entry)) (now (regs .entry))) addr n ⌝ }
 {
@@ -100,7 +101,7 @@ fn get_window<'a>(t: Target, s: Scan, mem: &'a [u8], regs: &'a [u8], addr: u32, 
 
 // Tmget.
 pub fn mget<'a>(t: Target, s: Scan, mem: &'a [u8], regs: &'a [u8], addr: u32, n: u8) -> [u8; 10]
-    requires { ⌜ Ready t s (now mem) (now regs) ⌝ }
+    requires { ⌜ Ready house t s (now mem) (now regs) ⌝ }
     ensures { λ r. ⌜ outcome 0 Nothing (world t (now (mem .entry)) (now (regs .entry))) r ≡ mgetOf (world t (now (mem .entry)) (now (regs .entry))) addr n ⌝ }
 {
     if n == 0 {
@@ -143,7 +144,7 @@ pub fn mput(
     n: u8,
     d: Data4,
 ) -> Served
-    requires { ⌜ Ready t s (now mem) (now regs) ⌝ }
+    requires { ⌜ Ready house t s (now mem) (now regs) ⌝ }
     requires { ⌜ n ≤ 4 ⌝ }
     ensures { λ r. ⌜ served t r (now (mem .exit)) (now (regs .exit)) ≡ mputOf (world t (now (mem .entry)) (now (regs .entry))) addr n d ⌝ }
 {
@@ -163,6 +164,10 @@ pub fn mput(
             let mut plain = s.plain;
             let at = (addr - t.base) as usize;
             memory::write(mem, &sites, &mut plain, at, &bytes[..count]);
+            let old = s.plain;
+            if common::equal(&old, &plain) {
+                return Served::with(Change::Same, rmput);
+            }
             Served {
                 change: Change::Plain,
                 plain: plain,

@@ -2,9 +2,9 @@
 use mathlib.Core.Path.{_≡_, refl, sym, ap, _∙_}
 use mathlib.Core.Bool.{Bool, true, false}
 use mathlib.Core.List.{List, [], _∷_, map}
-use Prim.Native.Nat.{ℕ, suc, _+_, _-_, _%_, _<_, _≤_}
+use Prim.Native.Nat.{ℕ, suc, _+_, _-_, _*_, _%_, _<_, _≤_}
 use native.Mathlib.Omega.{arith}
-use borrow.Author.Tests.{eq-eqb, ne-eqb, le-leb, lt-leb}
+use borrow.Author.Tests.{eq-eqb, ne-eqb, lt-ltb, le-leb, lt-leb}
 use lib.Dec.{eqb, leb}
 use lib.ListN.{length, getD}
 use mir.Val.{Val}
@@ -13,13 +13,18 @@ use Rattle.common.specs.First.{firstOf}
 use Rattle.common.specs.Tab.{tab}
 use Rattle.common.proofs.First.{first-within}
 use Rattle.common.proofs.Tab.{tab-sized}
-use Rattle.condition.specs.Add.{addOf}
+use Rattle.condition.specs.Add.{roomFor, addedBy, addOf}
+use Rattle.condition.specs.Depth.{depthOf, depthAfter}
 use Rattle.condition.specs.declared.Room.{Room}
-use Rattle.fit.specs.Arrays.{siteOf, sitesOf}
+use Rattle.condition.specs.declared.Room.the-variants.{Fits, Full, Short}
+use Rattle.fit.specs.Arrays.{noId, idOf, idsOf, siteOf, sitesOf}
 use Rattle.fit.specs.Fit.{entryAt, entryOf}
 use Rattle.fit.specs.declared.Scan.{Scan}
+use Rattle.memory.specs.Head.{house}
 use Rattle.memory.specs.Overlay.{siteOver, slotOf}
-use Rattle.common.proofs.Cases.{on-less, on-same}
+use Rattle.common.proofs.Cases.{on-less, on-same, on-test}
+use Rattle.common.proofs.Same.{true-or-false}
+use Rattle.rules.specs.Change.{grown}
 use Rattle.rules.specs.Breakpoint.{sites, isAt, breakpointAt}
 use Rattle.rules.specs.Condition.{inHand, joined, addElement, siteFree}
 use Rattle.rules.specs.Facts.{Shaped, Good}
@@ -27,24 +32,20 @@ use Rattle.rules.specs.FitFacts.{parts, facts-of}
 use Rattle.rules.specs.Found.{at-used, at-site}
 use Rattle.rules.specs.Outcome.{World}
 use Rattle.rules.specs.Ready.{Ready}
-use Rattle.target.specs.Free.{isFree}
+use Rattle.rules.specs.Slots.{TwoEach, site-at, site-used, plain-byte, id-used, id-free}
+use Rattle.target.specs.Free.{isFree, firstFree}
+use Rattle.scan.proofs.Laws.{Small, first-map, shape-at}
 use Rattle.target.specs.Fresh.{noEntry}
+use Rattle.target.specs.declared.Draft.{Draft}
 use Rattle.target.specs.declared.Element.{Element}
 use Rattle.target.specs.declared.Entry.{Entry}
 use Rattle.target.specs.declared.Target.{Target}
-use Rattle.target.proofs.Shape.{EntryShape, entry-shape, draft-shape, table-entries, table-entry, table-draft, target-shape, target-table}
+use Rattle.target.proofs.Shape.{draft-shape, table-entries, table-draft, target-shape, target-table}
 use Rattle.target.proofs.Target as target
+use Rattle.breaks.specs.Breaks.{Removable}
 
 -- ---- a record of the code is shaped and, where it is fit, good
 
--- each of its entries has its shape
-pub shape-at : (t : Target) (vs : List Val) (k : ℕ) → Is target.the-row t vs → k < 8 → EntryShape (entryAt (t .table .entries) k)
-shape-at t vs k h l =
-    let (_, u) = target-table t vs h in
-    let (_, e) = table-entry (t .table) _ k u l in
-    entry-shape (entryAt (t .table .entries) k) _ e
-
--- and so has the whole
 pub shaped-of : (t : Target) (vs : List Val) → Is target.the-row t vs → Shaped t
 shaped-of t vs h =
     let (_, u) = target-table t vs h in
@@ -59,7 +60,7 @@ shaped-of t vs h =
     }
 
 -- what a step starts from is a good record
-pub ready-good : (t : Target) (vs : List Val) (s : Scan) (mem regs : List ℕ) → Is target.the-row t vs → Ready t s mem regs → Good t mem
+pub ready-good : (t : Target) (vs : List Val) (s : Scan) (mem regs : List ℕ) → Is target.the-row t vs → Ready house t s mem regs → Good house t mem
 ready-good t vs s mem regs h r = record { shaped = shaped-of t vs h; fit = r .fit; sized = r .memory }
 
 -- the two plain bytes of an entry
@@ -68,13 +69,6 @@ unfolding tab
 two-bytes l h = tab-sized l 0 2 h
 
 -- ---- the breakpoint at an address is the slot that covers its offset
-
--- a search in a list of values finds what the same search finds in the list that they are of
-first-map : {A B : Type 0} (f : B → Bool) (g : A → B) (p : A → Bool) (l : List A) (d : A)
-    → ((k : ℕ) → k < length l → f (g (getD l k d)) ≡ p (getD l k d)) → firstOf f (map g l) ≡ firstOf p l
-unfolding firstOf
-first-map f g p [] d same = refl
-first-map f g p (x ∷ xs) d same = rw (same 0 (omega arith), first-map f g p xs d (λ k h. same (suc k) (omega arith)))
 
 module _ (base address : ℕ) (low : base ≤ address) (even : (address - base) % 2 ≡ 0) where
   -- an entry's slot covers the offset where the entry is at the address
@@ -102,7 +96,7 @@ at-end es address h =
     let z = first-within (isAt address) es in
     on-less k 8 (λ l. ne-eqb k 8 (λ e. omega arith) ∙ sym (lt-leb (length es) k (omega arith))) (λ l. eq-eqb k 8 (omega arith) ∙ sym (le-leb (length es) k (omega arith)))
 
-module _ (t : Target) (mem : List ℕ) (g : Good t mem) (address : ℕ) where
+module _ (t : Target) (mem : List ℕ) (g : Good house t mem) (address : ℕ) where
   -- the slot of an even offset finds the breakpoint
   pub at-even : t .base ≤ address → (address - t .base) % 2 ≡ 0
       → slotOf 2 (sites t) (address - t .base) ≡ breakpointAt (t .table .entries) address
@@ -123,10 +117,36 @@ module _ (t : Target) (mem : List ℕ) (g : Good t mem) (address : ℕ) where
 
 -- ---- the breakpoint with an id is the one that the scan's ids name
 
-pub id-found : (t : Target) (s : Scan) (mem regs : List ℕ) (id : ℕ) → Ready t s mem regs
+pub id-found : (t : Target) (s : Scan) (mem regs : List ℕ) (id : ℕ) → Ready house t s mem regs
     → firstOf (eqb id) (s .ids) ≡ entryOf (t .table .entries) id
 unfolding entryOf
 id-found t s mem regs id r = ap (firstOf (eqb id)) (r .ids)
+
+-- ---- the scan's slot of a used entry: its site, as an offset into the window, and its two plain bytes
+
+module _ (t : Target) (s : Scan) (k : ℕ) (h : Shaped t) (r : Removable t s k) where
+  within : k < length (t .table .entries)
+  within = omega (arith, h .entries, r .below)
+
+  -- every entry of a shaped record has two plain bytes
+  two : TwoEach (t .table .entries)
+  two j l = h .entry j (omega (arith, h .entries)) .plain
+
+  pub slot-site : getD (s .sites) k 0 ≡ entryAt (t .table .entries) k .site - t .base
+  slot-site = rw (r .traps) (site-at (t .base) (t .table .entries) k within ∙ site-used (t .base) _ (r .used))
+
+  slot-byte : (i j : ℕ) → j < 2 → i ≡ k * 2 + j → getD (s .plain) i 0 ≡ getD (entryAt (t .table .entries) k .plain) j 0
+  slot-byte i j l e = rw (r .plain, e) (plain-byte (t .table .entries) two k j within l)
+
+  pub slot-plain : getD (s .plain) (2 * k) 0 ∷ getD (s .plain) (2 * k + 1) 0 ∷ [] ≡ entryAt (t .table .entries) k .plain
+  slot-plain =
+      rw (slot-byte (2 * k) 0 (omega arith) (omega arith), slot-byte (2 * k + 1) 1 (omega arith) (omega arith))
+      (sym (two-bytes (entryAt (t .table .entries) k .plain) (two k within)))
+
+-- ---- the ids of a record's entries are bytes
+
+pub ids-small : (t : Target) → Shaped t → Small (t .table .entries)
+ids-small t h k l = h .entry k (omega (arith, h .entries)) .id
 
 -- ---- the requests
 
@@ -135,6 +155,22 @@ pub add-joined : (w : World) (e : Element) (r : Room) → (w .target .table .dra
     → addOf (w .target .table .draft) e .room ≡ r → joined w (addOf (w .target .table .draft) e) r ≡ addElement w e
 unfolding addElement inHand
 add-joined w e r h q = rw (ne-eqb (w .target .table .draft .active) 0 h, q)
+
+fits : Room → Bool
+fits Fits = true
+fits Full = false
+fits Short = false
+
+-- the condition in hand with an element that fits is the one grown by it
+pub fits-grown : (d : Draft) (e : Element) → addOf d e .room ≡ Fits → grown d e ≡ addOf d e .draft
+unfolding addOf addedBy roomFor grown fits
+fits-grown d e q =
+    let after = depthAfter (depthOf (d .elements) (d .count)) (e .letter) (e .value) in
+    on-less (d .count) 16
+    (λ h. on-same after 0
+    (λ z. true-or-false (ap fits (rw (lt-leb 16 (d .count) h, eq-eqb after 0 z) at q)))
+    (λ n. rw (lt-ltb (d .count) 16 h, lt-leb 16 (d .count) h, ne-eqb after 0 n)))
+    (λ h. true-or-false (ap fits (rw (le-leb 16 (d .count) h) at q)))
 
 -- a site for a breakpoint lies in the window
 pub site-low : (w : World) (val : ℕ) → siteFree w val ≡ true → w .target .base ≤ val

@@ -1,16 +1,20 @@
 -- What removing a breakpoint and making one need of the record.
 use mathlib.Core.Path.{_≡_}
+use mathlib.Core.Bool.{false}
 use mathlib.Core.List.{List}
 use Prim.Native.Nat.{ℕ, _+_, _-_, _≤_, _<_}
 use lib.ListN.{length}
 use Rattle.fit.specs.Fit.{entryAt}
 use Rattle.fit.specs.declared.Scan.{Scan}
 use Rattle.rules.specs.Breakpoint.{sites, plains}
+use Rattle.target.specs.Free.{isFree}
 use Rattle.target.specs.declared.Target.{Target}
 
-pub record Removable (t : Target) (k : ℕ) : Type 0 where
+pub record Removable (t : Target) (s : Scan) (k : ℕ) : Type 0 where
+  pub traps : s .sites ≡ sites t
+  pub plain : s .plain ≡ plains t
   pub below : k < 8
-  pub low : t .base ≤ entryAt (t .table .entries) k .site
+  pub used : isFree (entryAt (t .table .entries) k) ≡ false
 
 pub record Plantable (t : Target) (s : Scan) (mem : List ℕ) (site : ℕ) : Type 0 where
   pub traps : s .sites ≡ sites t

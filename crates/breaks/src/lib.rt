@@ -11,6 +11,7 @@ ghost use mathlib.Core.Path.{_≡_};
 ghost use mathlib.Core.List.{List};
 ghost use Prim.Native.Nat.{ℕ};
 ghost use lib.ListN.{replicate};
+ghost use Rattle.memory.specs.Head.{house};
 ghost use Rattle.target.specs.declared.Target.{Target};
 ghost use Rattle.rules.specs.Outcome.{world, replied};
 ghost use Rattle.rules.specs.Change.{without, applied};
@@ -22,7 +23,7 @@ ghost use Rattle.breaks.specs.Breaks.{Removable, Plantable};
 
 // The index of the breakpoint at an address, or 8.
 pub fn breakpoint_at<'a>(t: Target, s: Scan, mem: &'a [u8], regs: &'a [u8], address: u32) -> usize
-    requires { ⌜ Ready t s (now mem) (now regs) ⌝ }
+    requires { ⌜ Ready house t s (now mem) (now regs) ⌝ }
     ensures { λ r. ⌜ r ≡ breakpointAt (t .table .entries) address ⌝ }
 {
     if address < t.base {
@@ -37,14 +38,13 @@ pub fn breakpoint_at<'a>(t: Target, s: Scan, mem: &'a [u8], regs: &'a [u8], addr
 }
 
 // Puts the plain bytes of the breakpoint at an index back.
-pub fn put_back(t: Target, mem: &mut [u8], k: usize)
-    requires { ⌜ Removable t k ⌝ }
+pub fn put_back(t: Target, s: Scan, mem: &mut [u8], k: usize)
+    requires { ⌜ Removable t s k ⌝ }
     ensures { λ _. ⌜ ((regs : List ℕ) → world (without t k) (now (mem .exit)) regs ≡ removed (world t (now (mem .entry)) regs) k) ⌝ }
 {
-    let table = t.table;
-    let e = table.entries[k];
-    let at = (e.site - t.base) as usize;
-    memory::lay(mem, at, e.plain[0], e.plain[1]);
+    let sites = s.sites;
+    let plain = s.plain;
+    memory::lay(mem, sites[k] as usize, plain[2 * k], plain[2 * k + 1]);
 }
 
 // A change of the record, and Rcondbreak.
@@ -63,18 +63,17 @@ pub fn fail(reason: Reason) -> Served
 
 // `n`: begins a condition.
 fn begin<'a>(t: Target, s: Scan, mem: &'a [u8], regs: &'a [u8], val: u32) -> Served
-    requires { ⌜ Ready t s (now mem) (now regs) ⌝ }
+    requires { ⌜ Ready house t s (now mem) (now regs) ⌝ }
     ensures { λ r. ⌜ served t r (now (mem .entry)) (now (regs .entry)) ≡ beginCondition (world t (now (mem .entry)) (now (regs .entry))) val ⌝ }
 {
     if 255 < val {
         return fail(Reason::Inval);
     }
     let ids = s.ids;
-    if fit::entry_of(&ids, val) < 8 {
+    if scan::entry_of(&ids, val) < 8 {
         return fail(Reason::Inval);
     }
-    let table = t.table;
-    if table.first_free() == 8 {
+    if scan::entry_of(&ids, 256) == 8 {
         return fail(Reason::Count);
     }
     let id = val as u8;
@@ -102,7 +101,7 @@ fn add(t: Target, letter: u8, value: u32) -> Served
 // Makes a breakpoint of the condition in hand, at a site of the window.
 fn plant<'a>(t: Target, s: Scan, mem: &'a mut [u8], site: u32) -> Served
     requires { ⌜ Plantable t s (now mem) site ⌝ }
-    ensures { λ r. ⌜ ((regs : List ℕ) → served t r (now (mem .exit)) regs ≡ replied message.Rcondbreak (planted (world t (now (mem .entry)) regs) site)) ⌝ }
+    ensures { λ r. ⌜ ((regs : List ℕ) → served t r (now (mem .exit)) regs ≡ replied message.Rcondbreak (planted house (world t (now (mem .entry)) regs) site)) ⌝ }
 {
     let sites = s.sites;
     let plain = s.plain;
@@ -115,7 +114,7 @@ fn plant<'a>(t: Target, s: Scan, mem: &'a mut [u8], site: u32) -> Served
 
 // A site is even, both its bytes are in the window, and no breakpoint is there.
 fn site_free<'a>(t: Target, s: Scan, mem: &'a [u8], regs: &'a [u8], val: u32) -> bool
-    requires { ⌜ Ready t s (now mem) (now regs) ⌝ }
+    requires { ⌜ Ready house t s (now mem) (now regs) ⌝ }
     ensures { λ r. ⌜ r ≡ siteFree (world t (now (mem .entry)) (now (regs .entry))) val ⌝ }
 {
     if val % 2 != 0 {
@@ -134,8 +133,8 @@ fn site_free<'a>(t: Target, s: Scan, mem: &'a [u8], regs: &'a [u8], val: u32) ->
 
 // `b`: sets the condition in hand as a breakpoint.
 fn set<'a>(t: Target, s: Scan, mem: &'a mut [u8], regs: &'a [u8], val: u32) -> Served
-    requires { ⌜ Ready t s (now mem) (now regs) ⌝ }
-    ensures { λ r. ⌜ served t r (now (mem .exit)) (now (regs .entry)) ≡ setBreakpoint (world t (now (mem .entry)) (now (regs .entry))) val ⌝ }
+    requires { ⌜ Ready house t s (now mem) (now regs) ⌝ }
+    ensures { λ r. ⌜ served t r (now (mem .exit)) (now (regs .entry)) ≡ setBreakpoint house (world t (now (mem .entry)) (now (regs .entry))) val ⌝ }
 {
     let table = t.table;
     let d = table.draft;
@@ -154,7 +153,7 @@ fn set<'a>(t: Target, s: Scan, mem: &'a mut [u8], regs: &'a [u8], val: u32) -> S
 
 // `d`: removes the breakpoint with an id. The condition in hand stays.
 fn delete<'a>(t: Target, s: Scan, mem: &'a mut [u8], regs: &'a [u8], val: u32) -> Served
-    requires { ⌜ Ready t s (now mem) (now regs) ⌝ }
+    requires { ⌜ Ready house t s (now mem) (now regs) ⌝ }
     ensures { λ r. ⌜ served t r (now (mem .exit)) (now (regs .entry)) ≡ deleteBreakpoint (world t (now (mem .entry)) (now (regs .entry))) val ⌝ }
 {
     let unknown = wire::bytes_of(Message::Rerr {
@@ -164,9 +163,9 @@ fn delete<'a>(t: Target, s: Scan, mem: &'a mut [u8], regs: &'a [u8], val: u32) -
         return Served::with(Change::Same, unknown);
     }
     let ids = s.ids;
-    let k = fit::entry_of(&ids, val);
+    let k = scan::entry_of(&ids, val);
     if k < 8 {
-        put_back(t, mem, k);
+        put_back(t, s, mem, k);
         return done(Change::Remove(k));
     }
     Served::with(Change::Same, unknown)
@@ -181,8 +180,8 @@ pub fn condbreak<'a>(
     val: u32,
     op: u8,
 ) -> Served
-    requires { ⌜ Ready t s (now mem) (now regs) ⌝ }
-    ensures { λ r. ⌜ served t r (now (mem .exit)) (now (regs .entry)) ≡ condbreakOf (world t (now (mem .entry)) (now (regs .entry))) val op ⌝ }
+    requires { ⌜ Ready house t s (now mem) (now regs) ⌝ }
+    ensures { λ r. ⌜ served t r (now (mem .exit)) (now (regs .entry)) ≡ condbreakOf house (world t (now (mem .entry)) (now (regs .entry))) val op ⌝ }
 {
     match op {
         b'n' => begin(t, s, mem, regs, val),

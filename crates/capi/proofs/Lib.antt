@@ -1,2 +1,4 @@
-mod Thin
+mod Lent
+mod PassOn
+mod Stores
 mod ThinWhole

@@ -39,11 +39,11 @@ use denote.Exit.{yes}
 use Rattle.target.specs.declared.Target.{Target}
 use Rattle.target.proofs.Target as T
 use Rattle.target.proofs.Target.Laws as T′
-use Rattle.capi.specs.declared.Whole.{Whole}
-use Rattle.capi.proofs.Whole as D
-use Rattle.capi.proofs.Whole.Laws as D′
-use Rattle.capi.proofs.restart as inner
-use Rattle.capi.proofs.sanirvoq_step_restart as f
+use Rattle.parts.specs.declared.Whole.{Whole}
+use Rattle.parts.proofs.Whole as D
+use Rattle.parts.proofs.Whole.Laws as D′
+use Rattle.parts.proofs.setup as inner
+use Rattle.capi.proofs.sanirvoq_step_setup as f
 
 abbrev stayed : Stays (f.ended .signature .params) (f.ended .kept)
 stayed = (stay-ref (0 ∷ []) tt (plain (λ _. T.the-row)), (gave-slice (1 ∷ []) tt (plain (λ _. u8)), (gave-slice (2 ∷ []) tt (plain (λ _. u8)), (stay-none (λ _. u32) yes, (stay-none (λ _. u8) yes, (stay-none-slice (3 ∷ []) tt (plain (λ _. u8)) yes, (gave-slice (4 ∷ []) tt (plain (λ _. u8)), tt)))))))

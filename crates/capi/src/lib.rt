@@ -1,108 +1,22 @@
 // The steps for kernels in C and Rust, over a record that the caller owns. include/sanirvoq.h is the same for C.
 //
 // Every exported step has one form: the record, the memory, the register area, a pid, a byte, an input and a reply. What a step does
-// not use it leaves as it is. Each hands its record to a step by value; a setup and a restart give back a whole record, which is stored, the
-// other steps what changes in it, so that nothing of the record is written where nothing changes.
+// not use it leaves as it is. A setup gives back a whole record, which is stored. All other steps go through one function, `step`, which hands
+// the record over by value and gets back what changes in it: just the parts that change are stored. One function for all, because the
+// compiler copies the record once more for every function that is called from several places and takes it by value.
 use fields::Fields;
 use fields::Found;
-use rules::Answer;
-use rules::Change;
-use rules::Done;
-use steps::Effect;
+use parts::Left;
+use target::Table;
 use target::Target;
 ghost use mathlib.Core.Path.{_≡_};
 ghost use Rattle.fields.specs.Fields.{writeFields, foundBy};
-ghost use Rattle.rules.specs.Change.{applied};
+ghost use Rattle.memory.specs.Head.{house};
+ghost use Rattle.parts.specs.Seen.{seen, seenOf, setupFrom, storeDraft, storeFresh, storePlains, storeEntry, afterOf};
 ghost use Rattle.rules.specs.Outcome.{world};
 ghost use Rattle.rules.specs.Step.{requestOf, trapOf, scheduleOf, stateOf, restartOf};
+ghost use Rattle.steps.specs.Kinds.{leaving, stepBy};
 ghost use Rattle.wire.specs.Codec.{written, readOf};
-ghost use Rattle.capi.specs.Door.{resultOf, seen, withReply, without, setupFrom, afterOf};
-
-// A step's result and the record that it leaves.
-pub struct Whole {
-    pub result: u32,
-    pub target: Target,
-}
-
-// A step's result and what it changes in the record: nothing where `changed` is false.
-pub struct Left {
-    pub result: u32,
-    pub changed: bool,
-    pub change: Change,
-    pub plain: [u8; 16],
-}
-
-// The number in the lowest byte, then the answer's bytes.
-fn result_of(number: u8, answer: Answer) -> u32
-    ensures { λ r. ⌜ r ≡ resultOf number answer ⌝ }
-{
-    match answer {
-        Answer::Nothing => common::word(0, 0, 0, number),
-        Answer::Stop(id) => common::word(0, id, 1, number),
-        Answer::Pass(x, y) => common::word(y, x, 2, number),
-        Answer::Yes => common::word(0, 0, 1, number),
-        Answer::No => common::word(0, 0, 0, number),
-    }
-}
-
-fn give_whole(d: Done) -> Whole
-    ensures { λ r. ⌜ r ≡ record { result = resultOf (d .number) (d .answer); target = d .target } ⌝ }
-{
-    let answer = d.answer;
-    let target = d.target;
-    let result = result_of(d.number, answer);
-    Whole {
-        result,
-        target: target,
-    }
-}
-
-fn leave(e: Effect) -> Left
-    ensures { λ r. ⌜ r ≡ record { result = resultOf (e .number) (e .answer); changed = e .changed; change = e .change; plain = e .plain } ⌝ }
-{
-    let answer = e.answer;
-    let change = e.change;
-    let plain = e.plain;
-    let result = result_of(e.number, answer);
-    Left {
-        result,
-        changed: e.changed,
-        change,
-        plain: plain,
-    }
-}
-
-// The record after a change.
-fn change_left(t: Target, d: Left) -> Target
-    ensures { λ r. ⌜ r ≡ applied t (d .change) (d .plain) ⌝ }
-{
-    let change = d.change;
-    let plain = d.plain;
-    change::apply(t, change, plain)
-}
-
-// Setup: base, size, count, pids and addresses are taken from the record.
-fn setup(
-    t: Target,
-    mem: &mut [u8],
-    regs: &mut [u8],
-    pid: u32,
-    value: u8,
-    input: &[u8],
-    reply: &mut [u8],
-) -> Whole
-    ensures { λ r. ⌜ seen (r .result) (r .target) (now (mem .exit)) (now (regs .exit)) (now (reply .exit)) ≡ without (now (reply .entry)) (setupFrom (world t (now (mem .entry)) (now (regs .entry)))) ⌝ }
-{
-    let ps = t.processes;
-    let p0 = ps[0];
-    let p1 = ps[1];
-    let p2 = ps[2];
-    let p3 = ps[3];
-    let pids = [p0.pid, p1.pid, p2.pid, p3.pid];
-    let addresses = [p0.address, p1.address, p2.address, p3.address];
-    let d = stub::setup(t.base, t.size, pids, addresses, t.count, mem, regs);
-    give_whole(d)
-}
 
 #[no_mangle]
 pub extern "C" fn sanirvoq_step_setup(
@@ -114,29 +28,82 @@ pub extern "C" fn sanirvoq_step_setup(
     input: &[u8],
     reply: &mut [u8],
 ) -> u32
-    ensures { λ r. ⌜ seen r (now (t .exit)) (now (mem .exit)) (now (regs .exit)) (now (reply .exit)) ≡ without (now (reply .entry)) (setupFrom (world (now (t .entry)) (now (mem .entry)) (now (regs .entry)))) ⌝ }
+    ensures { λ r. ⌜ seen r (now (t .exit)) (now (mem .exit)) (now (regs .exit)) (now (reply .exit)) ≡ seenOf (leaving (now (reply .entry)) (setupFrom (world (now (t .entry)) (now (mem .entry)) (now (regs .entry))))) ⌝ }
 {
-    let d = setup(*t, mem, regs, pid, value, input, reply);
+    let d = parts::setup(*t, mem, regs, pid, value, input, reply);
     *t = d.target;
     d.result
 }
 
-// A request: the ten bytes of input, answered in the ten of reply.
-fn request(
-    t: Target,
+// ---- the parts that change, stored in a record that is lent: one function for each part, which then hands the record on
+
+fn store_draft(t: &mut Target, d: Left) -> u32
+    ensures { λ r. ⌜ (r ≡ d .result) × (now (t .exit) ≡ storeDraft d (now (t .entry))) ⌝ }
+{
+    if d.draft {
+        t.table.draft = parts::draft_left(t.table.draft, d);
+    }
+    d.result
+}
+
+fn store_fresh(t: &mut Target, d: Left) -> u32
+    ensures { λ r. ⌜ (r ≡ d .result) × (now (t .exit) ≡ storeDraft d (storeFresh d (now (t .entry)))) ⌝ }
+{
+    if d.fresh {
+        t.table = Table::new();
+    }
+    store_draft(t, d)
+}
+
+fn store_plains(t: &mut Target, d: Left) -> u32
+    ensures { λ r. ⌜ (r ≡ d .result) × (now (t .exit) ≡ storeDraft d (storeFresh d (storePlains d (now (t .entry))))) ⌝ }
+{
+    if d.plains {
+        t.table.entries = parts::plains_left(t.table.entries, d);
+    }
+    store_fresh(t, d)
+}
+
+fn store_entry(t: &mut Target, d: Left) -> u32
+    ensures { λ r. ⌜ (r ≡ d .result) × (now (t .exit) ≡ storeDraft d (storeFresh d (storePlains d (storeEntry d (now (t .entry)))))) ⌝ }
+{
+    if d.entry {
+        let k = parts::index_left(t.table, d);
+        let e = parts::entry_left(t.table.draft, d);
+        t.table.entries = parts::stored_left(t.table.entries, k, e);
+    }
+    store_plains(t, d)
+}
+
+fn store(t: &mut Target, d: Left) -> u32
+    ensures { λ r. ⌜ (r ≡ d .result) × (now (t .exit) ≡ afterOf (now (t .entry)) d) ⌝ }
+{
+    if d.beside {
+        t.processes = parts::processes_left(t.count, t.processes, d);
+        t.selected = parts::selected_left(t.selected, d);
+        t.current = parts::current_left(t.current, d);
+    }
+    store_entry(t, d)
+}
+
+// The same over a record that is lent.
+fn step(
+    t: &mut Target,
+    kind: u8,
     mem: &mut [u8],
     regs: &mut [u8],
     pid: u32,
     value: u8,
     input: &[u8],
     reply: &mut [u8],
-) -> Left
-    ensures { λ r. ⌜ seen (r .result) (afterOf t r) (now (mem .exit)) (now (regs .exit)) (now (reply .exit)) ≡ withReply (requestOf (world t (now (mem .entry)) (now (regs .entry))) (now (input .entry)) (now (reply .entry))) ⌝ }
+) -> u32
+    ensures { λ r. ⌜ seen r (now (t .exit)) (now (mem .exit)) (now (regs .exit)) (now (reply .exit)) ≡ seenOf (stepBy kind (world (now (t .entry)) (now (mem .entry)) (now (regs .entry))) pid value (now (input .entry)) (now (reply .entry))) ⌝ }
 {
-    let d = steps::request_step(t, mem, regs, input, reply);
-    leave(d)
+    let d = parts::step_of(*t, kind, mem, regs, pid, value, input, reply);
+    store(t, d)
 }
 
+// A request: the ten bytes of input, answered in the ten of reply.
 #[no_mangle]
 pub extern "C" fn sanirvoq_step_request(
     t: &mut Target,
@@ -147,31 +114,12 @@ pub extern "C" fn sanirvoq_step_request(
     input: &[u8],
     reply: &mut [u8],
 ) -> u32
-    ensures { λ r. ⌜ seen r (now (t .exit)) (now (mem .exit)) (now (regs .exit)) (now (reply .exit)) ≡ withReply (requestOf (world (now (t .entry)) (now (mem .entry)) (now (regs .entry))) (now (input .entry)) (now (reply .entry))) ⌝ }
+    ensures { λ r. ⌜ seen r (now (t .exit)) (now (mem .exit)) (now (regs .exit)) (now (reply .exit)) ≡ seenOf (requestOf house (world (now (t .entry)) (now (mem .entry)) (now (regs .entry))) (now (input .entry)) (now (reply .entry))) ⌝ }
 {
-    let d = request(*t, mem, regs, pid, value, input, reply);
-    if d.changed {
-        *t = change_left(*t, d);
-    }
-    d.result
+    step(t, 1, mem, regs, pid, value, input, reply)
 }
 
 // A process ran into a trap: pid, and its block as input.
-fn trap(
-    t: Target,
-    mem: &mut [u8],
-    regs: &mut [u8],
-    pid: u32,
-    value: u8,
-    input: &[u8],
-    reply: &mut [u8],
-) -> Left
-    ensures { λ r. ⌜ seen (r .result) (afterOf t r) (now (mem .exit)) (now (regs .exit)) (now (reply .exit)) ≡ without (now (reply .entry)) (trapOf (world t (now (mem .entry)) (now (regs .entry))) pid (now (input .entry))) ⌝ }
-{
-    let d = steps::trap_step(t, mem, regs, pid, input);
-    leave(d)
-}
-
 #[no_mangle]
 pub extern "C" fn sanirvoq_step_trap(
     t: &mut Target,
@@ -182,31 +130,12 @@ pub extern "C" fn sanirvoq_step_trap(
     input: &[u8],
     reply: &mut [u8],
 ) -> u32
-    ensures { λ r. ⌜ seen r (now (t .exit)) (now (mem .exit)) (now (regs .exit)) (now (reply .exit)) ≡ without (now (reply .entry)) (trapOf (world (now (t .entry)) (now (mem .entry)) (now (regs .entry))) pid (now (input .entry))) ⌝ }
+    ensures { λ r. ⌜ seen r (now (t .exit)) (now (mem .exit)) (now (regs .exit)) (now (reply .exit)) ≡ seenOf (leaving (now (reply .entry)) (trapOf house (world (now (t .entry)) (now (mem .entry)) (now (regs .entry))) pid (now (input .entry)))) ⌝ }
 {
-    let d = trap(*t, mem, regs, pid, value, input, reply);
-    if d.changed {
-        *t = change_left(*t, d);
-    }
-    d.result
+    step(t, 2, mem, regs, pid, value, input, reply)
 }
 
 // The kernel is about to run a process: pid, and its block as input.
-fn schedule(
-    t: Target,
-    mem: &mut [u8],
-    regs: &mut [u8],
-    pid: u32,
-    value: u8,
-    input: &[u8],
-    reply: &mut [u8],
-) -> Left
-    ensures { λ r. ⌜ seen (r .result) (afterOf t r) (now (mem .exit)) (now (regs .exit)) (now (reply .exit)) ≡ without (now (reply .entry)) (scheduleOf (world t (now (mem .entry)) (now (regs .entry))) pid (now (input .entry))) ⌝ }
-{
-    let d = steps::schedule_step(t, mem, regs, pid, input);
-    leave(d)
-}
-
 #[no_mangle]
 pub extern "C" fn sanirvoq_step_schedule(
     t: &mut Target,
@@ -217,31 +146,12 @@ pub extern "C" fn sanirvoq_step_schedule(
     input: &[u8],
     reply: &mut [u8],
 ) -> u32
-    ensures { λ r. ⌜ seen r (now (t .exit)) (now (mem .exit)) (now (regs .exit)) (now (reply .exit)) ≡ without (now (reply .entry)) (scheduleOf (world (now (t .entry)) (now (mem .entry)) (now (regs .entry))) pid (now (input .entry))) ⌝ }
+    ensures { λ r. ⌜ seen r (now (t .exit)) (now (mem .exit)) (now (regs .exit)) (now (reply .exit)) ≡ seenOf (leaving (now (reply .entry)) (scheduleOf house (world (now (t .entry)) (now (mem .entry)) (now (regs .entry))) pid (now (input .entry)))) ⌝ }
 {
-    let d = schedule(*t, mem, regs, pid, value, input, reply);
-    if d.changed {
-        *t = change_left(*t, d);
-    }
-    d.result
+    step(t, 3, mem, regs, pid, value, input, reply)
 }
 
 // A process gets another state: pid and value.
-fn state(
-    t: Target,
-    mem: &mut [u8],
-    regs: &mut [u8],
-    pid: u32,
-    value: u8,
-    input: &[u8],
-    reply: &mut [u8],
-) -> Left
-    ensures { λ r. ⌜ seen (r .result) (afterOf t r) (now (mem .exit)) (now (regs .exit)) (now (reply .exit)) ≡ without (now (reply .entry)) (stateOf (world t (now (mem .entry)) (now (regs .entry))) pid value) ⌝ }
-{
-    let d = steps::state_step(t, mem, regs, pid, value);
-    leave(d)
-}
-
 #[no_mangle]
 pub extern "C" fn sanirvoq_step_state(
     t: &mut Target,
@@ -252,31 +162,12 @@ pub extern "C" fn sanirvoq_step_state(
     input: &[u8],
     reply: &mut [u8],
 ) -> u32
-    ensures { λ r. ⌜ seen r (now (t .exit)) (now (mem .exit)) (now (regs .exit)) (now (reply .exit)) ≡ without (now (reply .entry)) (stateOf (world (now (t .entry)) (now (mem .entry)) (now (regs .entry))) pid value) ⌝ }
+    ensures { λ r. ⌜ seen r (now (t .exit)) (now (mem .exit)) (now (regs .exit)) (now (reply .exit)) ≡ seenOf (leaving (now (reply .entry)) (stateOf house (world (now (t .entry)) (now (mem .entry)) (now (regs .entry))) pid value)) ⌝ }
 {
-    let d = state(*t, mem, regs, pid, value, input, reply);
-    if d.changed {
-        *t = change_left(*t, d);
-    }
-    d.result
+    step(t, 4, mem, regs, pid, value, input, reply)
 }
 
 // The debug session begins anew, answered in reply.
-fn restart(
-    t: Target,
-    mem: &mut [u8],
-    regs: &mut [u8],
-    pid: u32,
-    value: u8,
-    input: &[u8],
-    reply: &mut [u8],
-) -> Whole
-    ensures { λ r. ⌜ seen (r .result) (r .target) (now (mem .exit)) (now (regs .exit)) (now (reply .exit)) ≡ withReply (restartOf (world t (now (mem .entry)) (now (regs .entry))) (now (reply .entry))) ⌝ }
-{
-    let d = stub::restart(t, mem, regs, reply);
-    give_whole(d)
-}
-
 #[no_mangle]
 pub extern "C" fn sanirvoq_step_restart(
     t: &mut Target,
@@ -287,11 +178,9 @@ pub extern "C" fn sanirvoq_step_restart(
     input: &[u8],
     reply: &mut [u8],
 ) -> u32
-    ensures { λ r. ⌜ seen r (now (t .exit)) (now (mem .exit)) (now (regs .exit)) (now (reply .exit)) ≡ withReply (restartOf (world (now (t .entry)) (now (mem .entry)) (now (regs .entry))) (now (reply .entry))) ⌝ }
+    ensures { λ r. ⌜ seen r (now (t .exit)) (now (mem .exit)) (now (regs .exit)) (now (reply .exit)) ≡ seenOf (restartOf house (world (now (t .entry)) (now (mem .entry)) (now (regs .entry))) (now (reply .entry))) ⌝ }
 {
-    let d = restart(*t, mem, regs, pid, value, input, reply);
-    *t = d.target;
-    d.result
+    step(t, 5, mem, regs, pid, value, input, reply)
 }
 
 // Writes a message's ten bytes.

@@ -1,55 +1,229 @@
-// What a request changes in the record, made: the one place where a request writes it.
+// What a step changes in the record, made: part by part, so that a caller who has the record in its own memory writes just the parts
+// that change, and of a whole record.
 use rules::Change;
 use target::Draft;
 use target::Element;
 use target::Entry;
+use target::Process;
 use target::Table;
 use target::Target;
 ghost use mathlib.Core.Path.{_≡_};
-ghost use mathlib.Core.List.{[]};
-ghost use Rattle.rules.specs.Record.{setState};
+ghost use mathlib.Core.Bool.{true, false};
+ghost use mathlib.Core.List.{List};
+ghost use Prim.Native.Nat.{ℕ};
+ghost use lib.ListN.{set};
+ghost use Rattle.fit.specs.Fit.{processAt};
+ghost use Rattle.rules.specs.Record.{withState};
 ghost use Rattle.rules.specs.Condition.{begun as begunOf};
 ghost use Rattle.rules.specs.Request.{withPlains};
-ghost use Rattle.rules.specs.Change.{applied};
+ghost use Rattle.rules.specs.Change.{grown as grownOf, applied};
 ghost use Rattle.rules.specs.declared.Change.the-variants as change;
-ghost use Rattle.target.specs.Fresh.{freshEntry};
-ghost use Rattle.change.specs.Table.{withHand, withEntry, tableAfter};
+ghost use Rattle.change.specs.Parts.{processesAfter, selectedAfter, currentAfter, entriesAfter, draftAfter, indexAfter, entryAfter, KeepsBeside, WrittenBy, KeepsDraft};
+
+// ---- which parts a change is about
+
+// The processes and the current one.
+pub fn in_beside(c: Change) -> bool
+    ensures { λ r. ⌜ (r ≡ false → KeepsBeside c) ⌝ }
+{
+    match c {
+        Change::Current(_) => true,
+        Change::State(_, _, _) => true,
+        Change::Start(_, _) => true,
+        Change::Restart => true,
+        _ => false,
+    }
+}
+
+// How a change writes the entries: not at all, one of them, their plain bytes, or the whole table afresh.
+pub enum Written {
+    Nowhere,
+    One,
+    Plains,
+    Fresh,
+}
+
+pub fn in_entries(c: Change) -> Written
+    ensures { λ r. ⌜ WrittenBy r c ⌝ }
+{
+    match c {
+        Change::Plant(_, _, _) => Written::One,
+        Change::Remove(_) => Written::One,
+        Change::Start(_, _) => Written::One,
+        Change::Plain => Written::Plains,
+        Change::Restart => Written::Fresh,
+        _ => Written::Nowhere,
+    }
+}
+
+// The condition in hand.
+pub fn in_draft(c: Change) -> bool
+    ensures { λ r. ⌜ (r ≡ false → KeepsDraft c) ⌝ }
+{
+    match c {
+        Change::Begin(_) => true,
+        Change::Add(_, _) => true,
+        Change::Drop => true,
+        Change::Plant(_, _, _) => true,
+        Change::Restart => true,
+        _ => false,
+    }
+}
+
+// ---- what becomes of them
 
 // The state and the mark of one process set.
-pub fn set_state(t: Target, i: usize, state: u8, wanted: u8) -> Target
-    ensures { λ r. ⌜ r ≡ setState t i state wanted ⌝ }
+fn set_process(ps: [Process; 4], i: usize, state: u8, wanted: u8) -> [Process; 4]
+    ensures { λ r. ⌜ r ≡ set ps i (withState (processAt ps i) state wanted) ⌝ }
 {
-    let mut u = t;
+    let mut qs = ps;
     if i < 4 {
-        u.processes[i].state = state;
-        u.processes[i].wanted = wanted;
+        qs[i].state = state;
+        qs[i].wanted = wanted;
     }
-    u
+    qs
 }
 
-// The table with its entries' plain bytes taken from the slots' bytes.
-fn with_plains(t: Table, plain: [u8; 16]) -> Table
-    ensures { λ r. ⌜ r ≡ record { entries = withPlains (t .entries) plain; draft = t .draft } ⌝ }
+// The processes after a restart: no mark, and nobody Stopped, among the first n.
+fn restart_processes(count: u32, ps: [Process; 4]) -> [Process; 4]
+    ensures { λ r. ⌜ r ≡ processesAfter count ps change.Restart ⌝ }
 {
-    let mut u = t;
+    let mut qs = ps;
+    let n = count as usize;
+    let mut i: usize = 0;
+    while i < 4 {
+        if i == n {
+            break;
+        }
+        if qs[i].state == 8 {
+            qs[i].state = 2;
+        }
+        qs[i].wanted = 0;
+        i += 1;
+    }
+    qs
+}
+
+// The processes, of which the first `count` are there.
+pub fn processes_after(count: u32, ps: [Process; 4], c: Change) -> [Process; 4]
+    ensures { λ r. ⌜ r ≡ processesAfter count ps c ⌝ }
+{
+    match c {
+        Change::State(i, state, wanted) => set_process(ps, i, state, wanted),
+        Change::Start(i, _) => set_process(ps, i, 2, 0),
+        Change::Restart => restart_processes(count, ps),
+        _ => ps,
+    }
+}
+
+// Whether a process is current, and which.
+pub fn selected_after(selected: u8, c: Change) -> u8
+    ensures { λ r. ⌜ r ≡ selectedAfter selected c ⌝ }
+{
+    match c {
+        Change::Current(_) => 1,
+        Change::Restart => 0,
+        _ => selected,
+    }
+}
+
+pub fn current_after(current: u32, c: Change) -> u32
+    ensures { λ r. ⌜ r ≡ currentAfter current c ⌝ }
+{
+    match c {
+        Change::Current(pid) => pid,
+        Change::Restart => 0,
+        _ => current,
+    }
+}
+
+// The index of the one entry that changes: a new breakpoint takes the free entry of the lowest index.
+pub fn index_after(u: Table, c: Change) -> usize
+    ensures { λ r. ⌜ r ≡ indexAfter u c ⌝ }
+{
+    match c {
+        Change::Plant(_, _, _) => u.first_free(),
+        Change::Remove(k) => k,
+        Change::Start(_, k) => k,
+        _ => 8,
+    }
+}
+
+// What it becomes: the condition in hand as a breakpoint, or free.
+pub fn entry_after(d: Draft, c: Change) -> Entry
+    ensures { λ r. ⌜ r ≡ entryAfter d c ⌝ }
+{
+    match c {
+        Change::Plant(site, b0, b1) => {
+            let elements = d.elements;
+            Entry {
+                used: 1,
+                id: d.id,
+                plain: [b0, b1],
+                site: site,
+                count: d.count,
+                elements: elements,
+            }
+        }
+        _ => Entry::free(),
+    }
+}
+
+// The entries with one stored.
+pub fn with_entry(es: [Entry; 8], k: usize, e: Entry) -> [Entry; 8]
+    ensures { λ r. ⌜ r ≡ set es k e ⌝ }
+{
+    let mut fs = es;
+    if k < 8 {
+        fs[k] = e;
+    }
+    fs
+}
+
+// The entries with their plain bytes taken from the slots' bytes. Just those that differ are written: an entry is large.
+pub fn with_plains(es: [Entry; 8], plain: [u8; 16]) -> [Entry; 8]
+    ensures { λ r. ⌜ r ≡ withPlains es plain ⌝ }
+{
+    let mut fs = es;
     let mut k: usize = 0;
     while k < 8 {
-        let mut e = u.entries[k];
-        e.plain[0] = plain[2 * k];
-        e.plain[1] = plain[2 * k + 1];
-        u.entries[k] = e;
+        let old = fs[k];
+        let b0 = plain[2 * k];
+        let b1 = plain[2 * k + 1];
+        let same = old.plain[0] == b0 && old.plain[1] == b1;
+        if !same {
+            let mut e = fs[k];
+            e.plain[0] = b0;
+            e.plain[1] = b1;
+            fs[k] = e;
+        }
         k += 1;
     }
-    u
+    fs
 }
 
-// Another condition in hand.
-fn with_draft(t: Table, d: Draft) -> Table
-    ensures { λ r. ⌜ r ≡ withHand t d ⌝ }
+// The entries.
+pub fn entries_after(u: Table, c: Change, plain: [u8; 16]) -> [Entry; 8]
+    ensures { λ r. ⌜ r ≡ entriesAfter u c plain ⌝ }
 {
-    let mut u = t;
-    u.draft = d;
-    u
+    let es = u.entries;
+    match c {
+        Change::Plain => with_plains(es, plain),
+        Change::Restart => {
+            let none = Entry::free();
+            [none; 8]
+        }
+        Change::Same => es,
+        Change::Current(_) => es,
+        Change::State(_, _, _) => es,
+        Change::Begin(_) => es,
+        Change::Add(_, _) => es,
+        Change::Drop => es,
+        _ => {
+            let draft = u.draft;
+            with_entry(es, index_after(u, c), entry_after(draft, c))
+        }
+    }
 }
 
 // A condition in hand with an id and no element.
@@ -62,62 +236,30 @@ fn begun(id: u8) -> Draft
     d
 }
 
-// Without the breakpoint at an index.
-fn without(t: Table, k: usize) -> Table
-    ensures { λ r. ⌜ r ≡ withEntry t k freshEntry ⌝ }
+// One element more, as far as there is room.
+fn grown(d: Draft, e: Element) -> Draft
+    ensures { λ r. ⌜ r ≡ grownOf d e ⌝ }
 {
-    let mut u = t;
-    if k < 8 {
-        let free = Entry::free();
-        u.entries[k] = free;
+    let mut f = d;
+    let k = d.count as usize;
+    if k < 16 {
+        f.elements[k] = e;
+        f.count = d.count + 1;
     }
-    u
+    f
 }
 
-// The condition in hand as a breakpoint, in the free entry of the lowest index.
-fn plant(t: Table, site: u32, b0: u8, b1: u8) -> Table
-    ensures { λ r. ⌜ r ≡ tableAfter t (change.Plant site b0 b1) [] ⌝ }
-{
-    let mut u = t;
-    let d = t.draft;
-    let elements = d.elements;
-    let k = t.first_free();
-    if k < 8 {
-        let e = Entry {
-            used: 1,
-            id: d.id,
-            plain: [b0, b1],
-            site: site,
-            count: d.count,
-            elements: elements,
-        };
-        u.entries[k] = e;
-    }
-    let none = Draft::closed();
-    u.draft = none;
-    u
-}
-
-// The table after a change of it.
-fn change_table(t: Table, c: Change, plain: [u8; 16]) -> Table
-    ensures { λ r. ⌜ r ≡ tableAfter t c plain ⌝ }
+// The condition in hand.
+pub fn draft_after(d: Draft, c: Change) -> Draft
+    ensures { λ r. ⌜ r ≡ draftAfter d c ⌝ }
 {
     match c {
-        Change::Plain => with_plains(t, plain),
-        Change::Begin(id) => with_draft(t, begun(id)),
-        Change::Add(letter, value) => {
-            let d = t.draft;
-            let added = condition::add(d, Element { letter, value });
-            let more = added.draft;
-            with_draft(t, more)
-        }
-        Change::Drop => with_draft(t, Draft::closed()),
-        Change::Plant(site, b0, b1) => plant(t, site, b0, b1),
-        Change::Remove(k) => without(t, k),
-        Change::Start(_, k) => without(t, k),
-        Change::Same => t,
-        Change::Current(_) => t,
-        Change::State(_, _, _) => t,
+        Change::Begin(id) => begun(id),
+        Change::Add(letter, value) => grown(d, Element { letter, value }),
+        Change::Drop => Draft::closed(),
+        Change::Plant(_, _, _) => Draft::closed(),
+        Change::Restart => Draft::closed(),
+        _ => d,
     }
 }
 
@@ -125,28 +267,20 @@ fn change_table(t: Table, c: Change, plain: [u8; 16]) -> Table
 pub fn apply(t: Target, c: Change, plain: [u8; 16]) -> Target
     ensures { λ r. ⌜ r ≡ applied t c plain ⌝ }
 {
-    match c {
-        Change::Same => t,
-        Change::Current(pid) => {
-            let mut u = t;
-            u.selected = 1;
-            u.current = pid;
-            u
-        }
-        Change::State(i, state, wanted) => set_state(t, i, state, wanted),
-        Change::Start(i, _) => {
-            let mut u = set_state(t, i, 2, 0);
-            let table = t.table;
-            let after = change_table(table, c, plain);
-            u.table = after;
-            u
-        }
-        _ => {
-            let mut u = t;
-            let table = t.table;
-            let after = change_table(table, c, plain);
-            u.table = after;
-            u
-        }
-    }
+    let ps = t.processes;
+    let table = t.table;
+    let d = table.draft;
+    let mut u = t;
+    let qs = processes_after(t.count, ps, c);
+    u.processes = qs;
+    u.selected = selected_after(t.selected, c);
+    u.current = current_after(t.current, c);
+    let entries = entries_after(table, c, plain);
+    let draft = draft_after(d, c);
+    let after = Table {
+        entries: entries,
+        draft: draft,
+    };
+    u.table = after;
+    u
 }

@@ -1,18 +1,13 @@
 -- Laws of a test at every number below a bound, for computed tables and for loops. Assumes nothing.
-use mathlib.Core.Path.{_≡_, refl, sym, ap, _∙_}
-use mathlib.Core.Bool.{Bool, true, false, _&&_}
+use mathlib.Core.Path.{_≡_, refl, sym, _∙_}
+use mathlib.Core.Bool.{Bool, true, false}
 use Prim.Native.Nat.{ℕ, zero, suc, _+_, _<_}
 use native.Mathlib.Nat.{not-suc-le-zero}
 use native.Mathlib.Numerals.{add-one}
 use native.Mathlib.Omega.{arith}
-use lib.Dec.{eqb}
-use borrow.Author.Tests.{eqb-true, eqb-false}
 use Rattle.common.specs.Every.{every}
+use Rattle.common.proofs.Cases.{on-test, on-same}
 use Rattle.common.proofs.Same.{true-or-false, and-both}
-
-last-or : (n : ℕ) (f : ℕ → Bool) (k : ℕ) → k < suc n → f n ≡ true → (k < n → f k ≡ true) → (b : Bool) → eqb k n ≡ b → f k ≡ true
-last-or n f k h l r true q = rw (eqb-true k n q) l
-last-or n f k h l r false q = let d = eqb-false k n q in r (omega arith)
 
 -- a test that holds at every number below n holds at each
 pub every-at : (n : ℕ) (f : ℕ → Bool) → every n f ≡ true → (k : ℕ) → k < n → f k ≡ true
@@ -20,7 +15,7 @@ unfolding every
 every-at zero f e k h = absurd (not-suc-le-zero h)
 every-at (suc n) f e k h =
     let both = and-both (every n f) (f n) e in
-    last-or n f k h (both .1) (every-at n f (both .0) k) (eqb k n) refl
+    on-same k n (λ q. rw q (both .1)) (λ d. every-at n f (both .0) k (omega arith))
 
 -- a test that holds at each number below n holds at every one
 pub every-all : (n : ℕ) (f : ℕ → Bool) → ((k : ℕ) → k < n → f k ≡ true) → every n f ≡ true
@@ -30,11 +25,7 @@ every-all (suc n) f h = rw (every-all n f (λ k g. h k (omega arith)), h n (omeg
 
 -- a test that fails at one number below n does not hold at every one
 pub every-fails : (n : ℕ) (f : ℕ → Bool) (k : ℕ) → k < n → f k ≡ false → every n f ≡ false
-every-fails n f k h e = by (every n f) refl
-  where
-    by : (b : Bool) → every n f ≡ b → b ≡ false
-    by true q = true-or-false (sym e ∙ every-at n f q k h)
-    by false q = refl
+every-fails n f k h e = on-test (every n f) (λ q. true-or-false (sym e ∙ every-at n f q k h)) (λ q. q)
 
 -- one number more, for a loop
 pub every-more : (n : ℕ) (f : ℕ → Bool) → every n f ≡ true → f n ≡ true → every (n + 1) f ≡ true

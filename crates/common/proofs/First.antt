@@ -1,7 +1,7 @@
 -- Laws of a search from the front of a list, once for every search loop. Assumes nothing.
 use mathlib.Core.Path.{_≡_, refl, sym, ap, _∙_}
-use mathlib.Core.Bool.{Bool, true, false, cond}
-use mathlib.Core.List.{List, [], _∷_}
+use mathlib.Core.Bool.{Bool, true, false}
+use mathlib.Core.List.{List, [], _∷_, map}
 use mathlib.Core.Logic.{_⊎_, inl, inr, ⊎-elim}
 use Prim.Native.Nat.{ℕ, zero, suc, _+_, _<_, _≤_}
 use native.Mathlib.Nat.{add-zero, add-suc, suc-add, zero-add, not-suc-le-zero, le-of-suc-le-suc}
@@ -10,7 +10,7 @@ use native.Mathlib.Omega.{arith}
 use lib.ListN.{length, getD, set, drop, drop-of-length-le}
 use lib.Seq.{drop-cons}
 use Rattle.common.specs.First.{firstOf}
-use Rattle.common.proofs.Cases.{on-test}
+use Rattle.common.proofs.Cases.{on-test, choose, either}
 
 -- the loop's invariant: the test fails at every place before k
 abbrev pub Passed : {A : Type 0} → (A → Bool) → List A → ℕ → Type 0
@@ -39,22 +39,22 @@ module _ {A : Type 0} (f : A → Bool) (l : List A) (d : A) (k n : ℕ) (z : len
 pub first-within : {A : Type 0} (f : A → Bool) (l : List A) → firstOf f l ≤ length l
 unfolding firstOf
 first-within f [] = omega arith
-first-within f (x ∷ xs) = by (f x) (first-within f xs)
-  where
-    by : (b : Bool) → firstOf f xs ≤ length xs → cond b 0 (suc (firstOf f xs)) ≤ length (x ∷ xs)
-    by true h = omega arith
-    by false h = omega arith
+first-within f (x ∷ xs) = either (λ n. n ≤ length (x ∷ xs)) (f x) (omega arith) (omega (arith, first-within f xs))
 
 -- at the place that is found the test holds
 pub first-holds : {A : Type 0} (f : A → Bool) (l : List A) (d : A) → firstOf f l < length l → f (getD l (firstOf f l) d) ≡ true
 unfolding firstOf
 first-holds f [] d h = absurd (not-suc-le-zero h)
-first-holds f (x ∷ xs) d h = by (f x) refl (λ g. first-holds f xs d g) h
-  where
-    by : (b : Bool) → f x ≡ b → (firstOf f xs < length xs → f (getD xs (firstOf f xs) d) ≡ true)
-        → cond b 0 (suc (firstOf f xs)) < length (x ∷ xs) → f (getD (x ∷ xs) (cond b 0 (suc (firstOf f xs))) d) ≡ true
-    by true e r g = e
-    by false e r g = r (le-of-suc-le-suc g)
+first-holds f (x ∷ xs) d h =
+    choose (λ n. n < length (x ∷ xs) → f (getD (x ∷ xs) n d) ≡ true) (f x)
+    (λ e g. e) (λ e g. first-holds f xs d (le-of-suc-le-suc g)) h
+
+-- a search among a function's values finds what a test of the elements finds, where the two tests agree
+pub first-map : {A B : Type 0} (f : B → Bool) (g : A → B) (p : A → Bool) (l : List A) (d : A)
+    → ((k : ℕ) → k < length l → f (g (getD l k d)) ≡ p (getD l k d)) → firstOf f (map g l) ≡ firstOf p l
+unfolding firstOf
+first-map f g p [] d same = refl
+first-map f g p (x ∷ xs) d same = rw (same 0 (omega arith), first-map f g p xs d (λ k h. same (suc k) (omega arith)))
 
 -- a store that the test cannot tell leaves the place
 pub first-set : {A : Type 0} (f : A → Bool) (l : List A) (d : A) (k : ℕ) (y : A) → f y ≡ f (getD l k d) → firstOf f (set l k y) ≡ firstOf f l
@@ -68,11 +68,8 @@ pub first-le : {A : Type 0} (f : A → Bool) (l : List A) (d : A) (j : ℕ) → 
 unfolding firstOf
 first-le f [] d j h e = absurd (not-suc-le-zero h)
 first-le f (x ∷ xs) d zero h e = rw e (omega arith)
-first-le f (x ∷ xs) d (suc j) h e = by (f x) (first-le f xs d j (le-of-suc-le-suc h) e)
-  where
-    by : (b : Bool) → firstOf f xs ≤ j → cond b 0 (suc (firstOf f xs)) ≤ suc j
-    by true h = omega arith
-    by false h = omega arith
+first-le f (x ∷ xs) d (suc j) h e =
+    either (λ n. n ≤ suc j) (f x) (omega arith) (omega (arith, first-le f xs d j (le-of-suc-le-suc h) e))
 
 -- a store to a place where the test fails: that place is found now, or the one that was found before
 pub first-new : {A : Type 0} (f : A → Bool) (l : List A) (d : A) (k : ℕ) (y : A) → f (getD l k d) ≡ false

@@ -1,6 +1,6 @@
 -- Laws of a choice by a number: what an arm of a `match` knows, as the definition's tests. Assumes nothing.
 use mathlib.Core.Path.{_≡_, refl, sym, ap, _∙_}
-use mathlib.Core.Bool.{Bool, true, false, cond, _||_}
+use mathlib.Core.Bool.{Bool, true, false, _||_}
 use mathlib.Core.List.{List, [], _∷_}
 use mathlib.Core.Logic.{⊎-elim, inl, inr}
 use Prim.Native.Nat.{ℕ, zero, suc, _≤_}
@@ -9,6 +9,7 @@ use borrow.Author.Tests.{eq-eqb, ne-eqb}
 use lib.Dec.{eqb}
 use types.Run.{OneOf}
 use Rattle.common.specs.Keys.{among, Arm, byKeys}
+use Rattle.common.proofs.Cases.{either}
 use Rattle.common.proofs.Same.{true-or-false}
 
 or-right : (a b : Bool) → b ≡ true → (a || b) ≡ true
@@ -94,8 +95,4 @@ EachValue P (r ∷ rs) = P (r .value) × EachValue P rs
 pub chosen : {A : Type 0} (P : A → Type 0) (rs : List (Arm A)) (other : A) (x : ℕ) → EachValue P rs → P other → P (byKeys rs other x)
 unfolding byKeys
 chosen P [] other x h o = o
-chosen P (r ∷ rs) other x h o = by (among (r .keys) x) (chosen P rs other x (h .1) o)
-  where
-    by : (b : Bool) → P (byKeys rs other x) → P (cond b (r .value) (byKeys rs other x))
-    by true later = h .0
-    by false later = later
+chosen P (r ∷ rs) other x h o = either P (among (r .keys) x) (h .0) (chosen P rs other x (h .1) o)

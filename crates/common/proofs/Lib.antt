@@ -2,6 +2,7 @@ pub mod Bytes
 pub mod Cases
 pub mod Division
 pub mod Every
+pub mod Fill
 pub mod First
 pub mod Keys
 pub mod Lists

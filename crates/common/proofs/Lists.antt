@@ -1,17 +1,36 @@
--- Laws of lists: a part to the end, a whole copy, padding. Assumes nothing.
-use mathlib.Core.Path.{_≡_, _∙_}
-use mathlib.Core.List.{List, [], _∷_, _++_, append-nil}
-use Prim.Native.Nat.{ℕ, zero, suc, _-_, min}
+-- Laws of lists: a part of one, one element stored, a whole copy, padding. Assumes nothing.
+use mathlib.Core.Path.{_≡_, refl, ap, _∙_}
+use mathlib.Core.List.{List, [], _∷_, _++_, map, append-nil}
+use Prim.Native.Nat.{ℕ, zero, suc, _+_, _-_, _<_, min}
 use native.Mathlib.Nat.{zero-add}
 use native.Mathlib.Omega.{arith}
-use lib.ListN.{length, drop, take, replicate, length-drop, length-take, length-append, length-replicate, drop-of-length-le}
-use lib.Seq.{paste, take-all, take-append-le}
+use lib.ListN.{length, getD, set, drop, take, replicate, length-drop, length-take, length-append, length-replicate, drop-of-length-le}
+use lib.Seq.{paste, take-all, take-append-le, getD-take, getD-drop, getD-set-same, getD-set-other}
 use Rattle.common.specs.Bytes.{Bytes}
 use Rattle.common.specs.Text.{padded}
+use Rattle.common.proofs.Cases.{on-same}
 
 -- the part of a list from a place to its end
 pub part-to-end : {A : Type 0} (l : List A) (i n : ℕ) → length l ≡ n → take (n - i) (drop i l) ≡ drop i l
 part-to-end l i n h = take-all (n - i) (drop i l) (simp length-drop (omega arith))
+
+-- element k of the n elements from a place on
+pub part-at : {A : Type 0} (l : List A) (at n k : ℕ) (d : A) → k < n → getD (take n (drop at l)) k d ≡ getD l (at + k) d
+part-at l at n k d h = getD-take n (drop at l) k d h ∙ getD-drop at l k d
+
+-- the first values of a function are its values at the first elements
+pub take-map : {A B : Type 0} (f : A → B) (n : ℕ) (l : List A) → take n (map f l) ≡ map f (take n l)
+take-map f zero l = refl
+take-map f (suc n) [] = refl
+take-map {B = B} f (suc n) (x ∷ xs) = ap (λ (l : List B). f x ∷ l) (take-map f n xs)
+
+-- one element stored, in the list: what holds of it and of the others holds of each
+pub at-set : {A : Type 0} (l : List A) (k : ℕ) (y d : A) (j : ℕ) → (j ≡ k → k < length l) → (P : A → Type 0)
+    → (j ≡ k → P y) → ((j ≡ k → ⊥) → P (getD l j d)) → P (getD (set l k y) j d)
+at-set l k y d j h P here there =
+    on-same j k
+    (λ q. rw (q, getD-set-same l k y d (h q)) (here q))
+    (λ n. rw (getD-set-other l k j y d n) (there n))
 
 -- a copy between lists of one length
 pub copy-whole : (d s : List ℕ) → length d ≡ length s → paste d 0 s (min (length d) (length s)) ≡ s

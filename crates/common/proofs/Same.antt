@@ -1,15 +1,16 @@
 -- Laws of the tests of lists. Assumes nothing.
 use mathlib.Core.Path.{_≡_, refl, sym, ap, _∙_}
-use mathlib.Core.Bool.{Bool, true, false, _&&_}
+use mathlib.Core.Bool.{Bool, true, false, _&&_, _||_}
 use mathlib.Core.List.{List, [], _∷_}
 use Prim.Native.Nat.{ℕ, suc, _+_, _<_, _≤_}
 use native.Mathlib.Numerals.{add-one}
 use native.Mathlib.Omega.{arith}
-use borrow.Author.Tests.{eqb-true, eq-eqb, ne-eqb}
+use borrow.Author.Tests.{ltb-true, leb-true, eqb-true, eq-eqb, ne-eqb}
 use lib.Dec.{eqb}
 use lib.ListN.{length, getD, drop, drop-of-length-le}
 use lib.Seq.{drop-cons}
 use Rattle.common.specs.Same.{sameList, allZero}
+use Rattle.common.proofs.Cases.{on-test}
 
 -- no test is both
 pub true-or-false : {A : Type 0} → false ≡ true → A
@@ -19,6 +20,20 @@ true-or-false e = let z : _≡_ {A = ℕ} 0 1 = cc in absurd (omega arith)
 pub and-both : (a b : Bool) → (a && b) ≡ true → (a ≡ true) × (b ≡ true)
 and-both true b e = (refl, e)
 and-both false b e = true-or-false e
+
+-- both parts of a disjunction that fails fail
+pub neither : (a b : Bool) → (a || b) ≡ false → (a ≡ false) × (b ≡ false)
+neither true b e = true-or-false (sym e)
+neither false b e = (refl, e)
+
+pub and-left : (a b : Bool) → (a && b) ≡ true → a ≡ true
+and-left a b e = and-both a b e .0
+
+pub and-right : (a b : Bool) → (a && b) ≡ true → b ≡ true
+and-right a b e = and-both a b e .1
+
+-- the facts that the parts of a conjunction state
+pub ruleset parts = (and-left, and-right, ltb-true, leb-true, eqb-true)
 
 pub same-refl : (l : List ℕ) → sameList l l ≡ true
 unfolding sameList
@@ -36,11 +51,7 @@ same-eq (x ∷ xs) (y ∷ ys) h =
 
 -- lists of different lengths differ
 pub same-length : (l k : List ℕ) → (length l ≡ length k → ⊥) → sameList l k ≡ false
-same-length l k h = by (sameList l k) refl
-  where
-    by : (b : Bool) → sameList l k ≡ b → b ≡ false
-    by true e = absurd (h (ap length (same-eq l k e)))
-    by false e = refl
+same-length l k h = on-test (sameList l k) (λ e. absurd (h (ap length (same-eq l k e)))) (λ e. e)
 
 -- ---- a loop over two lists of one length. Its invariant: they agree before place i
 

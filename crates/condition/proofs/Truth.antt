@@ -8,6 +8,7 @@ use lib.Bits.{bitAnd}
 use lib.Dec.{eqb}
 use lib.ListN.{length, getD, take, drop}
 use Rattle.common.specs.Bytes.{ofHighFirst}
+use Rattle.memory.specs.Head.{house}
 use Rattle.memory.specs.Overlay.{plainAt}
 use Rattle.target.specs.declared.Element.{Element}
 use Rattle.target.specs.Fresh.{noElement}
@@ -15,6 +16,8 @@ use Rattle.condition.specs.Evaluate.{top, rest, flag, truth, joinOf, isO
 use Rattle.condition.specs.Evaluate.{evalFrom, evaluateOf, fetchOf}
 use Rattle.condition.specs.declared.Fetched.{Fetched}
 use Rattle.condition.specs.declared.Fetched.the-variants.{Word, Outside}
+use Rattle.common.proofs.Cases.{on-same}
+use Rattle.condition.specs.Stack.{valueOf, leftBy}
 use Rattle.condition.proofs.Depth.{next-element, no-element}
 
 -- ---- one value of two
@@ -57,41 +60,43 @@ module _ (x y : ℕ) (f : Bool) where
 
 -- ---- one element
 
--- a letter that reads no memory
-pub stays : (read : ℕ → Fetched) (letter : ℕ) (st : List ℕ) → (letter ≡ 42 → ⊥) → false ≡ escapes read letter st
-unfolding escapes
-stays read letter st h = rw (ne-eqb letter 42 h)
+module _ (read : ℕ → Fetched) (pid letter value : ℕ) (st : List ℕ) where
+  -- the value that it puts on the stack, or a read outside the window
+  abbrev pub given : Fetched
+  given = valueOf read pid letter value (top (rest st)) (top st)
 
--- `*` at y, the top: outside the window, or a word
-module _ (read : ℕ → Fetched) (letter : ℕ) (st : List ℕ) (y : ℕ) (found : Fetched)
-    (e : letter ≡ 42) (py : y ≡ top st) (pf : found ≡ read y) where
-  pub load-out : found ≡ Outside → true ≡ escapes read letter st
-  unfolding escapes isOutside
-  load-out h = rw (e, ← py, ← pf, h)
+  pub given-by : (x y : ℕ) → x ≡ top (rest st) → y ≡ top st → valueOf read pid letter value x y ≡ given
+  given-by x y p q = rw (p, q)
 
-  pub load-in : (w : ℕ) → found ≡ Word w → false ≡ escapes read letter st
-  unfolding escapes isOutside
-  load-in w h = rw (e, ← py, ← pf, h)
+  pub given-outside : escapes read letter st ≡ isOutside given
+  unfolding escapes isOutside valueOf
+  given-outside =
+      on-same letter 107 (λ e. rw e)
+      (λ a. on-same letter 112 (λ e. rw e)
+      (λ b. on-same letter 42 (λ e. rw e)
+      (λ c. rw (ne-eqb letter 107 a, ne-eqb letter 112 b, ne-eqb letter 42 c))))
 
-  pub load : (pid value w : ℕ) (t l : List ℕ) → found ≡ Word w → t ≡ rest st → l ≡ w ∷ t → l ≡ stackAfter read pid letter value st
-  unfolding stackAfter wordOf
-  load pid value w t l h pt k = rw (e, ← py, ← pf, h, ← pt) k
+  pub given-word : stackAfter read pid letter value st ≡ wordOf given ∷ leftBy letter st
+  unfolding stackAfter wordOf valueOf leftBy
+  given-word =
+      on-same letter 107 (λ e. rw e)
+      (λ a. on-same letter 112 (λ e. rw e)
+      (λ b. on-same letter 42 (λ e. rw e)
+      (λ c. rw (ne-eqb letter 107 a, ne-eqb letter 112 b, ne-eqb letter 42 c))))
 
-module _ (read : ℕ → Fetched) (pid letter value : ℕ) (st l : List ℕ) where
-  pub push-pid : (v : ℕ) → letter ≡ 107 → v ≡ flag (eqb pid value) → l ≡ v ∷ st → l ≡ stackAfter read pid letter value st
-  unfolding stackAfter
-  push-pid v e h k = rw e (k ∙ rw h)
+  module _ (found : Fetched) (is : found ≡ given) where
+    pub got-outside : found ≡ Outside → true ≡ escapes read letter st
+    unfolding isOutside
+    got-outside h = sym (given-outside ∙ ap isOutside (sym is ∙ h))
 
-  pub push-value : letter ≡ 112 → l ≡ value ∷ st → l ≡ stackAfter read pid letter value st
-  unfolding stackAfter
-  push-value e k = rw e k
+    module _ (w : ℕ) (h : found ≡ Word w) where
+      pub got-inside : false ≡ escapes read letter st
+      unfolding isOutside
+      got-inside = sym (given-outside ∙ ap isOutside (sym is ∙ h))
 
-  -- another letter makes one value of two
-  pub join-two : (y x v : ℕ) (t u : List ℕ) → (letter ≡ 107 → ⊥) → (letter ≡ 112 → ⊥) → (letter ≡ 42 → ⊥)
-      → y ≡ top st → t ≡ rest st → x ≡ top t → u ≡ rest t → v ≡ joinOf letter x y → l ≡ v ∷ u → l ≡ stackAfter read pid letter value st
-  unfolding stackAfter
-  join-two y x v t u a b c py pt px pu pv k =
-      rw (ne-eqb letter 107 a, ne-eqb letter 112 b, ne-eqb letter 42 c, ← pt, ← py, ← px, ← pu, ← pv) k
+      pub got-stack : (l left : List ℕ) → left ≡ leftBy letter st → l ≡ w ∷ left → l ≡ stackAfter read pid letter value st
+      unfolding wordOf
+      got-stack l left q p = p ∙ rw (given-word, ← q) (ap (λ (f : Fetched). wordOf f ∷ left) (sym h ∙ is))
 
 -- ---- the elements from a place on, over a stack
 
@@ -121,18 +126,18 @@ module _ (read : ℕ → Fetched) (pid : ℕ) (l : List Element) (n i : ℕ) (z 
 -- ---- the reader
 
 module _ (sites plain mem : List ℕ) (base a : ℕ) where
-  pub fetch-below : a < base → Outside ≡ fetchOf sites plain mem base a
+  pub fetch-below : a < base → Outside ≡ fetchOf house sites plain mem base a
   unfolding fetchOf
   fetch-below h = rw (lt-leb base a h)
 
-  pub fetch-above : base ≤ a → length mem < a - base + 4 → Outside ≡ fetchOf sites plain mem base a
+  pub fetch-above : base ≤ a → length mem < a - base + 4 → Outside ≡ fetchOf house sites plain mem base a
   unfolding fetchOf
   fetch-above h k = rw (le-leb base a h, lt-leb (a - base + 4) (length mem) k)
 
   pub fetch-word : (b0 b1 b2 b3 w : ℕ) → base ≤ a → a - base + 4 ≤ length mem
       → b0 ≡ plainAt 2 sites plain mem (a - base) → b1 ≡ plainAt 2 sites plain mem (a - base + 1)
       → b2 ≡ plainAt 2 sites plain mem (a - base + 2) → b3 ≡ plainAt 2 sites plain mem (a - base + 3)
-      → w ≡ ofHighFirst (b3 ∷ b2 ∷ b1 ∷ b0 ∷ []) → Word w ≡ fetchOf sites plain mem base a
+      → w ≡ ofHighFirst (b3 ∷ b2 ∷ b1 ∷ b0 ∷ []) → Word w ≡ fetchOf house sites plain mem base a
   unfolding fetchOf ofHighFirst
   fetch-word b0 b1 b2 b3 w h k p q r s e =
       rw (le-leb base a h, le-leb (a - base + 4) (length mem) k, ← p, ← q, ← r, ← s) (ap Word e)

@@ -6,7 +6,7 @@ use Prim.Native.Char.{code}
 use lib.Bits.{bitAnd}
 use lib.Dec.{leb, eqb}
 use lib.ListN.{length, take}
-use Rattle.common.specs.Bytes.{ofLowFirst}
+use Rattle.memory.specs.Head.{Head}
 use Rattle.memory.specs.Overlay.{plainAt}
 use Rattle.target.specs.declared.Element.{Element}
 use Rattle.condition.specs.declared.Fetched.{Fetched}
@@ -74,13 +74,13 @@ evalFrom read pid (e ∷ es) st =
 unfoldable pub evaluateOf : (ℕ → Fetched) → ℕ → List Element → ℕ → Bool
 evaluateOf read pid es count = evalFrom read pid (take count es) (1 ∷ [])
 
--- ---- the reader: "* reads the four plain bytes there, low-order first", over the window at base with its traps
+-- ---- the reader: "* reads the four plain bytes there, low-order first", which is the house's order, over the window at base with its traps
 
-unfoldable pub fetchOf : List ℕ → List ℕ → List ℕ → ℕ → ℕ → Fetched
-fetchOf sites plain mem base a =
+unfoldable pub fetchOf : Head → List ℕ → List ℕ → List ℕ → ℕ → ℕ → Fetched
+fetchOf h sites plain mem base a =
     cond (leb base a && leb (a - base + 4) (length mem))
     (Word
-    (ofLowFirst
+    (h .word
     (plainAt 2 sites plain mem (a - base) ∷
     plainAt 2 sites plain mem (a - base + 1) ∷
     plainAt 2 sites plain mem (a - base + 2) ∷

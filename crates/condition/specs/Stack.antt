@@ -1,20 +1,24 @@
--- The stack of the code as the stack of the definitions, and one element done.
-use mathlib.Core.Path.{_≡_}
-use mathlib.Core.Bool.{Bool, false}
+-- One element as the code does it: the value that it puts on the stack, and the stack without the values that it takes.
+use mathlib.Core.Bool.{cond}
 use mathlib.Core.List.{List}
-use Prim.Native.Nat.{ℕ, _+_, _≤_}
-use lib.ListN.{drop}
-use Rattle.target.specs.declared.Element.{Element}
-use Rattle.condition.specs.Evaluate.{escapes, stackAfter}
+use Prim.Native.Nat.{ℕ}
+use Prim.Native.Char.{code}
+use lib.Dec.{eqb}
+use Rattle.condition.specs.Evaluate.{rest, flag, joinOf}
 use Rattle.condition.specs.declared.Fetched.{Fetched}
-use Rattle.condition.specs.declared.Stack.{Stack}
+use Rattle.condition.specs.declared.Fetched.the-variants.{Word, Outside}
 
--- the cells from `at` on, the top first
-abbrev pub live : Stack → List ℕ
-live s = drop (s .at) (s .cells)
+-- y is the top, x the value below it
+unfoldable pub valueOf : (ℕ → Fetched) → ℕ → ℕ → ℕ → ℕ → ℕ → Fetched
+valueOf read pid letter value x y =
+    cond (eqb letter (code "k")) (Word (flag (eqb pid value)))
+    (cond (eqb letter (code "p")) (Word value)
+    (cond (eqb letter (code "*")) (read y)
+    (Word (joinOf letter x y))))
 
-pub record Advanced (read : ℕ → Fetched) (pid : ℕ) (e : Element) (s t : Stack) (outside : Bool) : Type 0 where
-  pub out : outside ≡ escapes read (e .letter) (live s)
-  pub next : outside ≡ false → live t ≡ stackAfter read pid (e .letter) (e .value) (live s)
-  pub low : s .at ≤ t .at + 1
-  pub high : t .at ≤ 17
+unfoldable pub leftBy : ℕ → List ℕ → List ℕ
+leftBy letter st =
+    cond (eqb letter (code "k")) st
+    (cond (eqb letter (code "p")) st
+    (cond (eqb letter (code "*")) (rest st)
+    (rest (rest st))))

@@ -10,7 +10,8 @@ use Rattle.common.specs.First.{firstOf}
 use Rattle.common.specs.Keys.{among, byKeys}
 use Rattle.common.specs.Tab.{tab}
 use Rattle.common.specs.Text.{codes}
-use Rattle.memory.specs.Overlay.{trap, noSite, siteOver, slotOf, covered, plainAt, laidAt, laidOver}
+use Rattle.memory.specs.Head.{trapBytes, house}
+use Rattle.memory.specs.Overlay.{noSite, siteOver, slotOf, covered, plainAt, laidAt, laidOver}
 use Rattle.target.specs.declared.Element.{Element}
 use Rattle.condition.specs.Depth.{depthAfter, depthFrom, depthOf}
 use Rattle.condition.specs.Evaluate.{joinOf, isOutside, wordOf, escapes, stackAfter, evalFrom, evaluateOf, fetchOf}
@@ -24,7 +25,7 @@ abbrev pub plain : List ℕ
 plain = 8 ∷ 9 ∷ replicate 14 0
 
 abbrev pub memory : List ℕ
-memory = laidOver trap sites (tab 64 (λ i. i))
+memory = laidOver (trapBytes house) sites (tab 64 (λ i. i))
 
 -- ---- the conditions
 
@@ -54,11 +55,11 @@ abbrev pub depth : List Element → ℕ
 depth es = depthOf es (length es)
 
 abbrev pub holds : ℕ → List Element → Bool
-holds pid es = evaluateOf (fetchOf sites plain memory 4096) pid es (length es)
+holds pid es = evaluateOf (fetchOf house sites plain memory 4096) pid es (length es)
 
 -- memory holds the trap, and * reads the plain bytes under it
 pub worked :
-    (take 2 (drop 8 memory) ≡ trap)
+    (take 2 (drop 8 memory) ≡ trapBytes house)
     × (depth nine ∷ depth ten ∷ depth outside ∷ depth lacking ∷ [] ≡ 1 ∷ 1 ∷ 1 ∷ 0 ∷ [])
     × (holds 7 nine ∷ holds 5 nine ∷ holds 5 ten ∷ holds 5 outside ∷ [] ≡ true ∷ false ∷ true ∷ true ∷ [])
 unfolding depthOf depthFrom depthAfter byKeys among codes evaluateOf evalFrom stackAfter escapes isOutside wordOf joinOf fetchOf ofLowFirst

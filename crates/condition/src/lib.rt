@@ -2,12 +2,14 @@
 use target::Draft;
 use target::Element;
 ghost use mathlib.Core.Path.{_≡_};
-ghost use mathlib.Core.List.{[], _∷_};
-ghost use Prim.Native.Nat.{_+_, _<_, _≤_};
+ghost use mathlib.Core.List.{List};
+ghost use Prim.Native.Nat.{ℕ, _+_, _<_, _≤_};
+ghost use lib.ListN.{length, drop};
 ghost use Rattle.condition.specs.Depth.{depthAfter, depthOf};
 ghost use Rattle.condition.specs.Add.{addOf};
 ghost use Rattle.condition.specs.Evaluate.{flag as flagOf, top, rest, joinOf, evaluateOf, fetchOf};
-ghost use Rattle.condition.specs.Stack.{live, Advanced};
+ghost use Rattle.condition.specs.Stack.{valueOf, leftBy};
+ghost use Rattle.memory.specs.Head.{house};
 
 // Whether a condition takes one element more.
 pub enum Room {
@@ -92,58 +94,6 @@ pub fn add(d: Draft, e: Element) -> Added
     }
 }
 
-// The stack grows down: its values are the cells from `at` on, the top first.
-struct Stack {
-    cells: [u32; 17],
-    at: usize,
-}
-
-impl Stack {
-    const CELLS: usize = 17;
-
-    // One value, the truth of the final `b`.
-    fn new() -> Stack
-        ensures { λ r. ⌜ (live r ≡ 1 ∷ []) × (r .at ≡ 16) ⌝ }
-    {
-        let mut cells: [u32; 17] = [0; 17];
-        cells[16] = 1;
-        Stack {
-            cells: cells,
-            at: 16,
-        }
-    }
-
-    fn push(self, v: u32) -> Stack
-        requires { ⌜ (1 ≤ self .at) × (self .at ≤ 17) ⌝ }
-        ensures { λ r. ⌜ (live r ≡ v ∷ live self) × (r .at + 1 ≡ self .at) ⌝ }
-    {
-        let mut s = self;
-        let at = s.at - 1;
-        s.cells[at] = v;
-        s.at = at;
-        s
-    }
-
-    fn top(self) -> u32
-        ensures { λ r. ⌜ r ≡ top (live self) ⌝ }
-    {
-        let at = self.at;
-        if at < Stack::CELLS { self.cells[at] } else { 0 }
-    }
-
-    fn pop(self) -> Stack
-        requires { ⌜ self .at ≤ 17 ⌝ }
-        ensures { λ r. ⌜ (live r ≡ rest (live self)) × (self .at ≤ r .at) × (r .at ≤ 17) ⌝ }
-    {
-        let mut s = self;
-        let at = s.at;
-        if at < Stack::CELLS {
-            s.at = at + 1;
-        }
-        s
-    }
-}
-
 fn flag(b: bool) -> u32
     ensures { λ r. ⌜ r ≡ flagOf b ⌝ }
 {
@@ -165,7 +115,7 @@ fn join(letter: u8, x: u32, y: u32) -> u32
 
 // The plain word at an address, low-order first.
 pub fn fetch(mem: &[u8], base: u32, sites: &[u32; 8], plain: &[u8; 16], a: u32) -> Fetched
-    ensures { λ r. ⌜ r ≡ fetchOf (now (sites .entry)) (now (plain .entry)) (now (mem .entry)) base a ⌝ }
+    ensures { λ r. ⌜ r ≡ fetchOf house (now (sites .entry)) (now (plain .entry)) (now (mem .entry)) base a ⌝ }
 {
     if a < base {
         return Fetched::Outside;
@@ -181,65 +131,59 @@ pub fn fetch(mem: &[u8], base: u32, sites: &[u32; 8], plain: &[u8; 16], a: u32) 
     Fetched::Word(common::word(b3, b2, b1, b0))
 }
 
-struct Step {
-    stack: Stack,
-    outside: bool,
-}
-
-// One element on the stack, or a read outside the window.
-fn advance(
+// What an element puts on the stack, where y is the top and x the value below it; or a read outside the window.
+fn value_of(
     mem: &[u8],
     base: u32,
     sites: &[u32; 8],
     plain: &[u8; 16],
     pid: u32,
     e: Element,
-    s: Stack,
-) -> Step
-    requires { ⌜ (1 ≤ s .at) × (s .at ≤ 17) ⌝ }
-    ensures { λ r. ⌜ Advanced (fetchOf (now (sites .entry)) (now (plain .entry)) (now (mem .entry)) base) pid e s (r .stack) (r .outside) ⌝ }
+    x: u32,
+    y: u32,
+) -> Fetched
+    ensures { λ r. ⌜ r ≡ valueOf (fetchOf house (now (sites .entry)) (now (plain .entry)) (now (mem .entry)) base) pid (e .letter) (e .value) x y ⌝ }
 {
     let letter = e.letter;
-    if letter == b'k' {
-        let t = s.push(flag(pid == e.value));
-        return Step {
-            stack: t,
-            outside: false,
-        };
-    }
-    if letter == b'p' {
-        let t = s.push(e.value);
-        return Step {
-            stack: t,
-            outside: false,
-        };
-    }
-    let y = s.top();
-    let t = s.pop();
-    if letter == b'*' {
-        let found = fetch(mem, base, sites, plain, y);
-        let Fetched::Word(w) = found else {
-            return Step {
-                stack: s,
-                outside: true,
-            };
-        };
-        let u = t.push(w);
-        return Step {
-            stack: u,
-            outside: false,
-        };
-    }
-    let x = t.top();
-    let u = t.pop();
-    let v = u.push(join(letter, x, y));
-    Step {
-        stack: v,
-        outside: false,
+    match letter {
+        b'k' => Fetched::Word(flag(pid == e.value)),
+        b'p' => Fetched::Word(e.value),
+        b'*' => fetch(mem, base, sites, plain, y),
+        _ => Fetched::Word(join(letter, x, y)),
     }
 }
 
-// The truth of the first `count` elements over plain memory, for the trapping process.
+// The stack grows down in its cells: its values are those from `at` on, the top first.
+fn top_at(cells: &[u32; 17], at: usize) -> u32
+    ensures { λ r. ⌜ r ≡ top (drop at (now (cells .entry))) ⌝ }
+{
+    let all = &cells[..];
+    if at < all.len() { all[at] } else { 0 }
+}
+
+// Where the stack begins without its top.
+fn below(at: usize) -> usize
+    requires { ⌜ at ≤ 17 ⌝ }
+    ensures { λ r. ⌜ (at ≤ r) × (1 ≤ r) × (r ≤ 17) × ((cells : List ℕ) → length cells ≡ 17 → drop r cells ≡ rest (drop at cells)) ⌝ }
+{
+    if at < 17 { at + 1 } else { at }
+}
+
+// Where it begins without the values that an element takes.
+fn without(letter: u8, at: usize) -> usize
+    requires { ⌜ (1 ≤ at) × (at ≤ 17) ⌝ }
+    ensures { λ r. ⌜ (at ≤ r) × (r ≤ 17) × ((cells : List ℕ) → length cells ≡ 17 → drop r cells ≡ leftBy letter (drop at cells)) ⌝ }
+{
+    match letter {
+        b'k' => at,
+        b'p' => at,
+        b'*' => below(at),
+        _ => below(below(at)),
+    }
+}
+
+// The truth of the first `count` elements over plain memory, for the trapping process. The stack begins with one value, the
+// truth of the final `b`.
 pub fn evaluate(
     mem: &[u8],
     base: u32,
@@ -250,19 +194,23 @@ pub fn evaluate(
     count: u32,
 ) -> bool
     requires { ⌜ count ≤ 16 ⌝ }
-    ensures { λ r. ⌜ r ≡ evaluateOf (fetchOf (now (sites .entry)) (now (plain .entry)) (now (mem .entry)) base) pid elements count ⌝ }
+    ensures { λ r. ⌜ r ≡ evaluateOf (fetchOf house (now (sites .entry)) (now (plain .entry)) (now (mem .entry)) base) pid elements count ⌝ }
 {
     let n = count as usize;
-    let mut s = Stack::new();
+    let mut cells: [u32; 17] = [1; 17];
+    let mut at: usize = 16;
     let mut i: usize = 0;
     while i < n {
         let e = elements[i];
-        let step = advance(mem, base, sites, plain, pid, e, s);
-        if step.outside {
+        let y = top_at(&cells, at);
+        let x = top_at(&cells, below(at));
+        let found = value_of(mem, base, sites, plain, pid, e, x, y);
+        let Fetched::Word(w) = found else {
             return true;
-        }
-        s = step.stack;
+        };
+        at = without(e.letter, at) - 1;
+        cells[at] = w;
         i += 1;
     }
-    s.top() != 0
+    top_at(&cells, at) != 0
 }

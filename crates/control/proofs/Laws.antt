@@ -1,6 +1,6 @@
 -- Laws of the requests on a process: whether it is listed, its state, its saved pc and the breakpoint there. Assumes nothing.
 use mathlib.Core.Path.{_≡_, ap}
-use mathlib.Core.Bool.{true, cond}
+use mathlib.Core.Bool.{true, false, cond}
 use mathlib.Core.List.{List, [], _∷_}
 use Prim.Native.Nat.{ℕ, _+_, _*_, _<_, _≤_}
 use native.Mathlib.Omega.{arith}
@@ -9,6 +9,7 @@ use lib.ListN.{length, getD, replicate}
 use lib.Seq.{getD-take, getD-drop}
 use Rattle.common.specs.Bytes.{ofHighFirst}
 use Rattle.fit.specs.Fit.{stopped, processAt, entryAt, fitOf}
+use Rattle.memory.specs.Head.{house}
 use Rattle.rules.specs.Breakpoint.{breakpointAt, removed, removedAt}
 use Rattle.rules.specs.Change.{without, applied}
 use Rattle.rules.specs.Facts.{Facts}
@@ -20,6 +21,8 @@ use Rattle.rules.specs.Record.{ready, withProcesses, setState, indexOf, isStopp
 use Rattle.rules.specs.Request.{onProcess, withTarget, start}
 use Rattle.rules.specs.declared.Change.{Change}
 use Rattle.rules.specs.declared.Served.{Served}
+use Rattle.target.specs.Free.{isFree}
+use Rattle.target.specs.declared.Entry.{Entry}
 use Rattle.target.specs.declared.Process.{Process}
 use Rattle.target.specs.declared.Target.{Target}
 use Rattle.wire.specs.Message.{bytesOf}
@@ -83,8 +86,8 @@ module _ (regs : List ℕ) (i : ℕ) where
 
 -- ---- the breakpoint at an address, of a fit record
 
-pub facts : (t : Target) (mem : List ℕ) → fitOf t mem ≡ true → Facts t mem
-facts t mem e = facts-by t mem (tests-of t mem e)
+pub facts : (t : Target) (mem : List ℕ) → fitOf house t mem ≡ true → Facts house t mem
+facts t mem e = facts-by house t mem (tests-of t mem e)
 
 module _ (w : World) (address k : ℕ) (z : length (w .target .table .entries) ≡ 8)
     (e : k ≡ breakpointAt (w .target .table .entries) address) where
@@ -115,9 +118,6 @@ module _ (w : World) (pid i : ℕ) (e : i ≡ indexOf (w .target) pid) (l : i < 
       rw (ap (λ (v : World). v .mem) d, one-at (withTarget w (setState (w .target) i ready 0)) pc k z f h, p)
       (when-stopped _ _ _ e l _ _ _ s)
 
--- the site of a breakpoint that is found is not below the window
-pub site-low : (t : Target) (mem : List ℕ) (address k : ℕ) → fitOf t mem ≡ true → length (t .table .entries) ≡ 8
-    → k ≡ breakpointAt (t .table .entries) address → k < 8 → t .base ≤ entryAt (t .table .entries) k .site
-site-low t mem address k f z e h =
-    let l : breakpointAt (t .table .entries) address < 8 = omega arith in
-    rw e (facts t mem f .used _ (l, at-used (t .table .entries) address (omega arith)) .low)
+-- the entry of a breakpoint that is found is used
+pub used-at : (es : List Entry) (address k : ℕ) → length es ≡ 8 → k ≡ breakpointAt es address → k < 8 → isFree (entryAt es k) ≡ false
+used-at es address k z e h = rw e (at-used es address (omega arith))

@@ -9,6 +9,7 @@ ghost use mathlib.Core.Path.{_≡_};
 ghost use mathlib.Core.List.{List};
 ghost use Prim.Native.Nat.{ℕ, _+_, _*_, _≤_};
 ghost use lib.ListN.{length};
+ghost use Rattle.memory.specs.Head.{house};
 ghost use Rattle.target.specs.declared.Target.{Target};
 ghost use Rattle.rules.specs.Outcome.{world, error};
 ghost use Rattle.rules.specs.Record.{blockAt, pcOf};
@@ -107,7 +108,7 @@ pub fn stop(t: Target, pid: u32) -> Served
 
 // Tstart: clears the mark; a Stopped process becomes Ready, and a breakpoint at its saved pc is removed.
 pub fn start<'a>(t: Target, s: Scan, mem: &'a mut [u8], regs: &'a [u8], pid: u32) -> Served
-    requires { ⌜ Ready t s (now mem) (now regs) ⌝ }
+    requires { ⌜ Ready house t s (now mem) (now regs) ⌝ }
     ensures { λ r. ⌜ served t r (now (mem .exit)) (now (regs .entry)) ≡ startOf (world t (now (mem .entry)) (now (regs .entry))) pid ⌝ }
 {
     let ps = t.processes;
@@ -126,6 +127,6 @@ pub fn start<'a>(t: Target, s: Scan, mem: &'a mut [u8], regs: &'a [u8], pid: u32
     if 8 <= k {
         return Served::with(Change::State(i, 2, 0), bytes);
     }
-    breaks::put_back(t, mem, k);
+    breaks::put_back(t, s, mem, k);
     Served::with(Change::Start(i, k), bytes)
 }

@@ -8,6 +8,7 @@ use lib.ListN.{length, getD, take}
 use Rattle.common.specs.Every.{every}
 use Rattle.common.specs.First.{firstOf}
 use Rattle.condition.specs.Depth.{wellBegun, wellFormed}
+use Rattle.memory.specs.Head.{Head}
 use Rattle.target.specs.declared.Entry.{Entry}
 use Rattle.target.specs.declared.Draft.{Draft}
 use Rattle.target.specs.declared.Process.{Process}
@@ -48,22 +49,22 @@ entryAt es i = getD es i noEntry
 unfoldable pub apart : Entry → Entry → Bool
 apart e f = isFree e || isFree f || (not (eqb (e .id) (f .id)) && not (eqb (e .site) (f .site)))
 
--- "each site is even, has both bytes in the window, and memory holds 02 90 there"
-unfoldable pub siteFit : ℕ → List ℕ → ℕ → Bool
-siteFit base mem s =
+-- "each site is even, has both bytes in the window, and memory holds 02 90 there": the head's trap
+unfoldable pub siteFit : Head → ℕ → List ℕ → ℕ → Bool
+siteFit h base mem s =
     eqb (s % 2) 0 && leb base s && leb (s - base + 2) (length mem)
-    && eqb (getD mem (s - base) 0) 0x02 && eqb (getD mem (s - base + 1) 0) 0x90
+    && eqb (getD mem (s - base) 0) (h .first) && eqb (getD mem (s - base + 1) 0) (h .second)
 
 -- "each condition is well formed"
-unfoldable pub entryFit : ℕ → List ℕ → Entry → Bool
-entryFit base mem e = isFree e || (eqb (e .used) 1 && siteFit base mem (e .site) && wellFormed (e .elements) (e .count))
+unfoldable pub entryFit : Head → ℕ → List ℕ → Entry → Bool
+entryFit h base mem e = isFree e || (eqb (e .used) 1 && siteFit h base mem (e .site) && wellFormed (e .elements) (e .count))
 
 -- the entry at index i is fit, and apart from every one before it
-unfoldable pub slotFit : ℕ → List ℕ → List Entry → ℕ → Bool
-slotFit base mem es i = entryFit base mem (entryAt es i) && every i (λ j. apart (entryAt es j) (entryAt es i))
+unfoldable pub slotFit : Head → ℕ → List ℕ → List Entry → ℕ → Bool
+slotFit h base mem es i = entryFit h base mem (entryAt es i) && every i (λ j. apart (entryAt es j) (entryAt es i))
 
-unfoldable pub entriesFit : ℕ → List ℕ → List Entry → Bool
-entriesFit base mem es = every 8 (slotFit base mem es)
+unfoldable pub entriesFit : Head → ℕ → List ℕ → List Entry → Bool
+entriesFit h base mem es = every 8 (slotFit h base mem es)
 
 -- ---- "no Stopped process has a stop wanted"
 
@@ -99,11 +100,11 @@ draftFit d es = draftTest d (idsOf es) (firstFree es)
 
 -- ---- the whole record
 
-unfoldable pub fitOf : Target → List ℕ → Bool
-fitOf t mem =
+unfoldable pub fitOf : Head → Target → List ℕ → Bool
+fitOf h t mem =
     windowFit (t .base) (t .size)
     && processesFit (t .processes) (t .count)
-    && entriesFit (t .base) mem (t .table .entries)
+    && entriesFit h (t .base) mem (t .table .entries)
     && marksFit (t .processes) (t .count)
     && currentFit (t .selected) (t .current) (t .processes) (t .count)
     && draftFit (t .table .draft) (t .table .entries)

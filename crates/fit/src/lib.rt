@@ -1,18 +1,14 @@
-// Whether a record is fit, and the table of a fit record as small arrays of numbers.
+// What it is for a record to be fit, and the tests of its window and its processes.
 //
-// One function walks the table: it tests the entries and fills the arrays in the same pass. The steps work on the arrays.
-use target::Draft;
+// Crate `scan` has the tests of the table, and of the whole record.
 use target::Process;
-use target::Table;
-use target::Target;
 ghost use mathlib.Core.Path.{_≡_};
-ghost use mathlib.Core.Bool.{false, not, _&&_};
-ghost use Prim.Native.Nat.{_%_, _≤_, _<_};
+ghost use mathlib.Core.Bool.{not};
+ghost use Prim.Native.Nat.{_≤_};
 ghost use lib.Dec.{eqb};
 ghost use lib.ListN.{getD};
 ghost use Rattle.common.specs.Every.{every};
-ghost use Rattle.common.specs.First.{firstOf};
-ghost use Rattle.fit.specs.Fit.{windowFit, pidFit, processesFit, siteFit, entriesFit, markFit, marksFit, processOf, currentFit, draftTest, fitOf, Scanned};
+ghost use Rattle.fit.specs.Fit.{windowFit, processesFit, markFit, marksFit, processOf, currentFit};
 
 // Whether the test holds and, where it does, the ids (256 for a free entry), the sites as offsets into the window (1 for a
 // free entry) and the plain bytes of the eight entries.
@@ -46,19 +42,14 @@ pub fn window_fit(base: u32, size: u32) -> bool
     end <= 4294967296
 }
 
-// The pid at an index is at least 1, and no process before it has it.
-fn pid_fit(ps: [Process; 4], i: usize) -> bool
-    requires { ⌜ i < 4 ⌝ }
-    ensures { λ r. ⌜ r ≡ pidFit ps i ⌝ }
+// None of the first n pids is this one.
+fn pid_free(pids: &[u32; 4], n: usize, pid: u32) -> bool
+    requires { ⌜ n ≤ 4 ⌝ }
+    ensures { λ r. ⌜ r ≡ every n (λ j. not (eqb (getD (now (pids .entry)) j 0) pid)) ⌝ }
 {
-    let p = ps[i];
-    if p.pid == 0 {
-        return false;
-    }
     let mut j: usize = 0;
-    while j < i {
-        let q = ps[j];
-        if q.pid == p.pid {
+    while j < n {
+        if pids[j] == pid {
             return false;
         }
         j += 1;
@@ -66,7 +57,7 @@ fn pid_fit(ps: [Process; 4], i: usize) -> bool
     true
 }
 
-// The bounds on the processes and their pids.
+// The bounds on the processes and their pids. The pids seen are kept in an array, which is lent: the processes would be copied.
 pub fn processes_fit(ps: [Process; 4], count: u32) -> bool
     ensures { λ r. ⌜ r ≡ processesFit ps count ⌝ }
 {
@@ -77,11 +68,17 @@ pub fn processes_fit(ps: [Process; 4], count: u32) -> bool
         return false;
     }
     let n = count as usize;
+    let mut pids: [u32; 4] = [0; 4];
     let mut i: usize = 0;
     while i < n {
-        if !pid_fit(ps, i) {
+        let pid = ps[i].pid;
+        if pid == 0 {
             return false;
         }
+        if !pid_free(&pids, i, pid) {
+            return false;
+        }
+        pids[i] = pid;
         i += 1;
     }
     true
@@ -98,8 +95,7 @@ pub fn process_of(ps: [Process; 4], count: u32, pid: u32) -> usize
         if k == n {
             break k;
         }
-        let p = ps[k];
-        if p.pid == pid {
+        if ps[k].pid == pid {
             break k;
         }
         k += 1;
@@ -108,15 +104,14 @@ pub fn process_of(ps: [Process; 4], count: u32, pid: u32) -> usize
 }
 
 // No Stopped process has a stop wanted, and a mark is 0 or 1.
-fn marks_fit(ps: [Process; 4], count: u32) -> bool
+pub fn marks_fit(ps: [Process; 4], count: u32) -> bool
     requires { ⌜ count ≤ 4 ⌝ }
     ensures { λ r. ⌜ r ≡ marksFit ps count ⌝ }
 {
     let n = count as usize;
     let mut i: usize = 0;
     while i < n {
-        let p = ps[i];
-        if !mark_fit(p.state, p.wanted) {
+        if !mark_fit(ps[i].state, ps[i].wanted) {
             return false;
         }
         i += 1;
@@ -134,7 +129,7 @@ fn mark_fit(state: u8, wanted: u8) -> bool
 }
 
 // The current process is none or a listed pid.
-fn current_fit(selected: u8, current: u32, ps: [Process; 4], count: u32) -> bool
+pub fn current_fit(selected: u8, current: u32, ps: [Process; 4], count: u32) -> bool
     requires { ⌜ count ≤ 4 ⌝ }
     ensures { λ r. ⌜ r ≡ currentFit selected current ps count ⌝ }
 {
@@ -145,187 +140,4 @@ fn current_fit(selected: u8, current: u32, ps: [Process; 4], count: u32) -> bool
         return false;
     }
     process_of(ps, count, current) < count as usize
-}
-
-// A site is even, in the window, and holds the trap.
-fn site_fit(mem: &[u8], base: u32, site: u32) -> bool
-    ensures { λ r. ⌜ r ≡ siteFit base (now (mem .entry)) site ⌝ }
-{
-    if site % 2 != 0 {
-        return false;
-    }
-    if site < base {
-        return false;
-    }
-    let at = (site - base) as usize;
-    if mem.len() < at + 2 {
-        return false;
-    }
-    if mem[at] != 0x02 {
-        return false;
-    }
-    mem[at + 1] == 0x90
-}
-
-// No slot before the n-th has this id or this site.
-fn clear_of(ids: &[u32; 8], sites: &[u32; 8], n: usize, id: u32, site: u32) -> bool
-    requires { ⌜ n ≤ 8 ⌝ }
-    ensures { λ r. ⌜ r ≡ every n (λ j. not (eqb (getD (now (ids .entry)) j 0) id) && not (eqb (getD (now (sites .entry)) j 0) site)) ⌝ }
-{
-    let mut j: usize = 0;
-    while j < n {
-        if ids[j] == id {
-            return false;
-        }
-        if sites[j] == site {
-            return false;
-        }
-        j += 1;
-    }
-    true
-}
-
-// What is left to test of an entry that is not free.
-fn used_fit(mem: &[u8], base: u32, used: u8, site: u32, depth: u32) -> bool
-    ensures { λ r. ⌜ r ≡ (eqb used 1 && siteFit base (now (mem .entry)) site && eqb depth 1) ⌝ }
-{
-    if used != 1 {
-        return false;
-    }
-    if !site_fit(mem, base, site) {
-        return false;
-    }
-    depth == 1
-}
-
-// Tests the entries, and gives the table as arrays. The window begins even, so no used entry has a free one's offset.
-fn scan_table(mem: &[u8], base: u32, t: Table) -> Scan
-    requires { ⌜ base % 2 ≡ 0 ⌝ }
-    ensures { λ r. ⌜ Scanned (entriesFit base (now (mem .entry)) (t .entries)) base (t .entries) r ⌝ }
-{
-    let mut ids: [u32; 8] = [256; 8];
-    let mut sites: [u32; 8] = [1; 8];
-    let mut plain: [u8; 16] = [0; 16];
-    let mut i: usize = 0;
-    while i < 8 {
-        let e = t.entries[i];
-        plain[2 * i] = e.plain[0];
-        plain[2 * i + 1] = e.plain[1];
-        if e.used != 0 {
-            let elements = e.elements;
-            if !used_fit(
-                mem,
-                base,
-                e.used,
-                e.site,
-                condition::depth_of(elements, e.count),
-            ) {
-                return Scan {
-                    fit: false,
-                    ids: ids,
-                    sites: sites,
-                    plain: plain,
-                };
-            }
-            let id = e.id as u32;
-            let at = e.site - base;
-            if !clear_of(&ids, &sites, i, id, at) {
-                return Scan {
-                    fit: false,
-                    ids: ids,
-                    sites: sites,
-                    plain: plain,
-                };
-            }
-            ids[i] = id;
-            sites[i] = at;
-        }
-        i += 1;
-    }
-    Scan {
-        fit: true,
-        ids: ids,
-        sites: sites,
-        plain: plain,
-    }
-}
-
-// The index of the breakpoint with an id, or 8.
-pub fn entry_of(ids: &[u32; 8], id: u32) -> usize
-    ensures { λ r. ⌜ r ≡ firstOf (eqb id) (now (ids .entry)) ⌝ }
-{
-    let all = &ids[..];
-    let mut k: usize = 0;
-    let index = loop {
-        if k == 8 {
-            break k;
-        }
-        if all[k] == id {
-            break k;
-        }
-        k += 1;
-    };
-    index
-}
-
-// A condition in hand has a well-formed beginning, an unused id and a free entry waiting.
-fn draft_fit(d: Draft, ids: &[u32; 8], free: usize) -> bool
-    ensures { λ r. ⌜ r ≡ draftTest d (now (ids .entry)) free ⌝ }
-{
-    if d.active == 0 {
-        return true;
-    }
-    if d.active != 1 {
-        return false;
-    }
-    let elements = d.elements;
-    if condition::depth_of(elements, d.count) == 0 {
-        return false;
-    }
-    if entry_of(ids, d.id as u32) != 8 {
-        return false;
-    }
-    free < 8
-}
-
-fn unfit() -> Scan
-    ensures { λ r. ⌜ r .fit ≡ false ⌝ }
-{
-    Scan {
-        fit: false,
-        ids: [256; 8],
-        sites: [1; 8],
-        plain: [0; 16],
-    }
-}
-
-// Whether a record is fit over a memory and, where it is, its table as arrays.
-pub fn check(t: Target, mem: &[u8]) -> Scan
-    ensures { λ r. ⌜ Scanned (fitOf t (now (mem .entry))) (t .base) (t .table .entries) r ⌝ }
-{
-    let ps = t.processes;
-    let count = t.count;
-    if !window_fit(t.base, t.size) {
-        return unfit();
-    }
-    if !processes_fit(ps, count) {
-        return unfit();
-    }
-    if !marks_fit(ps, count) {
-        return unfit();
-    }
-    if !current_fit(t.selected, t.current, ps, count) {
-        return unfit();
-    }
-    let table = t.table;
-    let found = scan_table(mem, t.base, table);
-    if !found.fit {
-        return unfit();
-    }
-    let ids = found.ids;
-    let draft = table.draft;
-    if !draft_fit(draft, &ids, table.first_free()) {
-        return unfit();
-    }
-    found
 }

@@ -1,4 +1,5 @@
 pub mod Site
 pub mod Slots
+pub mod Bytes
 pub mod Laws
 pub mod Parts

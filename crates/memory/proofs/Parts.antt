@@ -2,26 +2,27 @@
 use mathlib.Core.Path.{_≡_, refl, sym, _∙_}
 use mathlib.Core.Bool.{Bool, true, false, cond, _&&_}
 use mathlib.Core.List.{List, _++_}
-use Prim.Native.Nat.{ℕ, _+_, _-_, _*_, _%_, _<_, _≤_, min}
+use Prim.Native.Nat.{ℕ, _+_, _-_, _<_, _≤_, min}
 use native.Mathlib.Nat.{add-sub-cancel-left, mod-lt}
 use native.Mathlib.Omega.{arith}
-use borrow.Author.Tests.{lt-ltb, le-ltb, le-leb, lt-leb, ltb-true, leb-true}
-use lib.Dec.{ltb, leb}
-use lib.ListN.{length, getD, take, drop, replicate}
-use lib.ListN.{length-drop, length-take, length-append, length-replicate, getD-replicate, List·getD-append}
+use borrow.Author.Tests.{leb-true}
+use lib.Dec.{leb}
+use lib.ListN.{length, getD, take, drop, replicate, length-drop, length-take, length-append, List·getD-append}
 use lib.Seq.{paste, getD-take, getD-drop, getD-append-add, length-take-le}
 use Rattle.common.proofs.Cases.{on-less}
-use Rattle.common.proofs.Lists.{copy-whole}
+use Rattle.common.proofs.Fill.{fill-ext}
+use Rattle.common.proofs.Lists.{copy-whole, part-at}
 use Rattle.common.proofs.Same.{and-both}
 use Rattle.common.proofs.Tab.{tab-is, tab-ext}
-use Rattle.memory.specs.Overlay.{noSite, slotOf, covered, plainAt}
+use Rattle.memory.specs.Overlay.{noSite, covered, plainAt}
 use Rattle.memory.specs.Place.{placeOf, stretchOf}
 use Rattle.memory.specs.declared.Place.{Place}
 use Rattle.memory.specs.declared.Place.the-variants.{Registers, Window, Nowhere}
 use Rattle.memory.specs.Write.{bytesAt, readOf, partRead, writtenAt, overwritten}
 use Rattle.memory.proofs.Site.{site-place}
-use Rattle.memory.proofs.Slots.{no-site-free, bare-by}
-use Rattle.memory.proofs.Laws.{is-covered, not-covered, place-registers}
+use Rattle.memory.proofs.Slots.{bare-by, none-covered, free-slots}
+use Rattle.memory.proofs.Bytes.{byteOver, byte-bare, written-in, written-before, written-after}
+use Rattle.memory.proofs.Laws.{place-registers}
 
 -- ---- where the bytes lie
 
@@ -52,15 +53,7 @@ module _ (base size a n : ℕ) where
 
 -- its byte j: under a trap the slot's, elsewhere the part's
 abbrev pub partAt : ℕ → List ℕ → List ℕ → List ℕ → ℕ → ℕ → ℕ
-partAt w sites plain part at j =
-    cond (covered w sites (at + j)) (getD plain (slotOf w sites (at + j) * w + (at + j) % w) 0) (getD part j 0)
-
-module _ (w : ℕ) (sites plain part : List ℕ) (at j k : ℕ) (q : k ≡ slotOf w sites (at + j)) where
-  pub part-under : k < length sites → getD plain (k * w + (at + j) % w) 0 ≡ partAt w sites plain part at j
-  part-under h = rw (is-covered w sites (at + j) k q h, ← q)
-
-  pub part-free : length sites ≤ k → getD part j 0 ≡ partAt w sites plain part at j
-  part-free h = rw (not-covered w sites (at + j) k q h)
+partAt w sites plain part at j = byteOver w sites plain (at + j) (getD part j 0)
 
 -- past every site no trap stands, so one offset there reads as any other
 module _ (w : ℕ) (pos : 0 < w) (sites : List ℕ) (end : ℕ) (small : (k : ℕ) → getD sites k 0 < end) where
@@ -78,37 +71,24 @@ part-window : (w : ℕ) (sites plain mem : List ℕ) (at n m : ℕ) → at + n �
     → partRead w sites plain (take n (drop at mem)) at m ≡ readOf w sites plain mem at n m
 unfolding partRead readOf plainAt
 part-window w sites plain mem at n m h =
-    rw (length-take-le n (drop at mem) (simp length-drop (omega arith))) (tab-ext m _ _ (λ j l. by j (ltb j n) refl))
-  where
-    by : (j : ℕ) (b : Bool) → ltb j n ≡ b
-        → cond b (partAt w sites plain (take n (drop at mem)) at j) 0 ≡ cond b (plainAt w sites plain mem (at + j)) 0
-    by j true e = rw (getD-take n (drop at mem) j 0 (ltb-true j n e), getD-drop at mem j 0)
-    by j false e = refl
-
--- free slots cover nothing
-free-slots : (w : ℕ) → 2 ≤ w → (k i : ℕ) → covered w (replicate k noSite) i ≡ false
-free-slots w h k i =
-    bare-by w (replicate k noSite) i
-    (λ j l e. no-site-free w h i (sym e ∙ getD-replicate k j noSite 0 (rw length-replicate at l)))
+    rw (length-take-le n (drop at mem) (simp length-drop (omega arith)))
+    (fill-ext (partAt w sites plain (take n (drop at mem)) at) (λ _. 0) n m (λ j. plainAt w sites plain mem (at + j))
+    (λ j l. rw (part-at mem at n j 0 l)))
 
 -- of a part of a block it is the register area's byte
 part-block : (plain regs : List ℕ) (from a n : ℕ) → a + n ≤ 136 → from + 136 ≤ length regs
     → partRead 2 (replicate 8 noSite) plain (take n (drop a (take 136 (drop from regs)))) 0 9 ≡ bytesAt regs (from + a) n 9
 unfolding partRead bytesAt
 part-block plain regs from a n h g =
-    rw (length-take-le n (drop a block) (simp (length-drop, length-take) (omega arith))) (tab-ext 9 _ _ (λ j l. by j (ltb j n) refl))
+    rw (length-take-le n (drop a block) (simp (length-drop, length-take) (omega arith)))
+    (fill-ext (partAt 2 (replicate 8 noSite) plain (take n (drop a block)) 0) (λ _. 0) n 9 (λ j. getD regs (from + a + j) 0)
+    (λ j l.
+    let z : from + (a + j) ≡ from + a + j = omega arith in
+    byte-bare 2 (replicate 8 noSite) plain (0 + j) _ (none-covered 2 (replicate 8 noSite) (free-slots 2 (omega arith) 8) (0 + j))
+    ∙ part-at block a n j 0 l ∙ part-at regs from 136 (a + j) 0 (omega arith) ∙ rw z))
   where
     block : List ℕ
     block = take 136 (drop from regs)
-
-    by : (j : ℕ) (b : Bool) → ltb j n ≡ b
-        → cond b (partAt 2 (replicate 8 noSite) plain (take n (drop a block)) 0 j) 0 ≡ cond b (getD regs (from + a + j) 0) 0
-    by j true e =
-        let k : j < n = ltb-true j n e in
-        let z : from + (a + j) ≡ from + a + j = omega arith in
-        rw (free-slots 2 (omega arith) 8 (0 + j), getD-take n (drop a block) j 0 k, getD-drop a block j 0)
-        (getD-take 136 (drop from regs) (a + j) 0 (omega arith) ∙ rw (getD-drop from regs (a + j) 0, z))
-    by j false e = refl
 
 -- what is read of the stretch that an address names
 module _ (mem : List ℕ) (base a n : ℕ) (part : List ℕ) where
@@ -132,7 +112,7 @@ module _ (mem : List ℕ) (base a n : ℕ) (part : List ℕ) where
 -- bytes in the place of as many of a list are written over it
 pub put-over : (l : List ℕ) (at : ℕ) (bytes : List ℕ) → at + length bytes ≤ length l
     → take at l ++ (bytes ++ drop (length bytes) (drop at l)) ≡ overwritten l at bytes
-unfolding overwritten writtenAt
+unfolding overwritten
 put-over l at bytes h =
     tab-is put (length l) _ 0 (simp (length-append, length-take, length-drop) (omega arith))
     (λ i g. on-less i at (before i) (λ b. on-less i (at + length bytes) (within i b) (after i b)))
@@ -144,13 +124,15 @@ put-over l at bytes h =
     put = take at l ++ (bytes ++ rest)
 
     Right : ℕ → Type 0
-    Right i = getD put i 0 ≡ cond (leb at i && ltb i (at + length bytes)) (getD bytes (i - at) 0) (getD l i 0)
+    Right i = getD put i 0 ≡ writtenAt at bytes i (getD l i 0)
 
     front : length (take at l) ≡ at
     front = length-take-le at l (omega arith)
 
     before : (i : ℕ) → i < at → Right i
-    before i b = rw (lt-leb at i b) (List·getD-append (take at l) (bytes ++ rest) 0 i (rw front b) ∙ getD-take at l i 0 b)
+    before i b =
+        List·getD-append (take at l) (bytes ++ rest) 0 i (rw front b) ∙ getD-take at l i 0 b
+        ∙ sym (written-before at bytes i (getD l i 0) b)
 
     past : (i : ℕ) → at ≤ i → getD put i 0 ≡ getD (bytes ++ rest) (i - at) 0
     past i b =
@@ -159,7 +141,7 @@ put-over l at bytes h =
 
     within : (i : ℕ) → at ≤ i → i < at + length bytes → Right i
     within i b g =
-        rw (le-leb at i b, lt-ltb i (at + length bytes) g) (past i b ∙ List·getD-append bytes rest 0 (i - at) (omega arith))
+        past i b ∙ List·getD-append bytes rest 0 (i - at) (omega arith) ∙ sym (written-in at bytes i (getD l i 0) b g)
 
     after : (i : ℕ) → at ≤ i → at + length bytes ≤ i → Right i
     after i b g =
@@ -167,7 +149,7 @@ put-over l at bytes h =
         let e : length bytes + m ≡ i - at = omega arith in
         let f : at + (i - at) ≡ i = omega arith in
         let q = getD-append-add bytes rest m 0 ∙ getD-drop (length bytes) (drop at l) m 0 ∙ getD-drop at l (length bytes + m) 0 in
-        rw (le-leb at i b, le-ltb i (at + length bytes) g) (past i b ∙ rw (e, f) at q)
+        past i b ∙ (rw (e, f) at q) ∙ sym (written-after at bytes i (getD l i 0) g)
 
 -- the same by a copy into the part of the list
 pub put-copied : (l bytes part : List ℕ) (at : ℕ) → at + length bytes ≤ length l

@@ -3,7 +3,7 @@ use mathlib.Core.Path.{_≡_, sym, _∙_}
 use Prim.Native.Nat.{ℕ, zero, suc, _+_, _*_, _/_, _%_, _<_, _≤_}
 use native.Mathlib.Nat.{zero-add, mod-le, mod-eq-of-lt, add-mod, div-add-mod'}
 use native.Mathlib.Omega.{arith}
-use Rattle.memory.specs.Overlay.{siteOver}
+use Rattle.memory.specs.Overlay.{noSite, siteOver}
 
 -- ---- the site over an offset
 
@@ -22,13 +22,17 @@ module _ (w : ℕ) where
       omega arith
 
   -- a site is a multiple of the trap's length
-  pub site-multiple : (i : ℕ) → siteOver w i ≡ i / w * w
+  site-multiple : (i : ℕ) → siteOver w i ≡ i / w * w
   unfolding siteOver
   site-multiple i = omega (arith, div-add-mod' i w)
 
-  -- the site of a free slot covers no offset
-  pub site-not-one : 2 ≤ w → (i : ℕ) → siteOver w i ≡ 1 → ⊥
-  site-not-one h i e = by (i / w) (sym (site-multiple i) ∙ e)
+  -- a slot with the site z is free: it covers no offset
+  abbrev pub Free : ℕ → Type 0
+  Free z = (i : ℕ) → siteOver w i ≡ z → ⊥
+
+  -- so is one with the site that stands for none, where a trap has two bytes or more
+  pub no-site-free : 2 ≤ w → Free noSite
+  no-site-free h i e = by (i / w) (sym (site-multiple i) ∙ e)
     where
       by : (q : ℕ) → q * w ≡ 1 → ⊥
       by zero e = omega arith

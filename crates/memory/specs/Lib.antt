@@ -1,3 +1,4 @@
+pub mod Head
 pub mod Overlay
 pub mod Write
 pub mod Place

@@ -5,15 +5,11 @@
 -- slots' plain bytes, w for each slot, one slot after the other.
 use Prim.Native.Nat.{ℕ, _+_, _-_, _*_, _%_}
 use mathlib.Core.Bool.{Bool, cond}
-use mathlib.Core.List.{List, [], _∷_}
+use mathlib.Core.List.{List}
 use lib.Dec.{ltb, eqb}
 use lib.ListN.{length, getD}
 use Rattle.common.specs.First.{firstOf}
 use Rattle.common.specs.Tab.{tab}
-
--- the trap: "the halfword 0x9002 (c.ebreak), in memory the bytes 02 90"
-abbrev pub trap : List ℕ
-trap = 0x02 ∷ 0x90 ∷ []
 
 -- the site of a free slot: odd, so no offset's
 abbrev pub noSite : ℕ

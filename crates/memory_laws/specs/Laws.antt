@@ -1,22 +1,22 @@
 -- Laws of plain and real memory, for any trap t of w bytes, any slots and any stretch. Assumes nothing.
-use mathlib.Core.Path.{_≡_, refl, sym, ap, _∙_}
-use mathlib.Core.Bool.{Bool, true, false, cond}
+use mathlib.Core.Path.{_≡_, sym, ap, _∙_}
+use mathlib.Core.Bool.{true, false}
 use mathlib.Core.List.{List}
 use Prim.Native.Nat.{ℕ, _+_, _*_, _<_, _≤_}
 use native.Mathlib.Omega.{arith}
-use borrow.Author.Tests.{ltb-true}
-use lib.Dec.{ltb}
 use lib.ListN.{length, getD, set, length-set}
 use lib.Seq.{getD-set-same, getD-set-other}
+use Rattle.common.proofs.Cases.{on-same}
+use Rattle.common.proofs.Fill.{fill-ext}
 use Rattle.common.proofs.Same.{true-or-false}
 use Rattle.common.proofs.Tab.{tab-ext}
 use Rattle.memory.specs.Overlay.{covered, plainAt, plainOf, laidAt, laidOver}
 use Rattle.memory.specs.Write.{bytesAt, readOf, writtenAt, overwritten, memAfter, plainAfter}
-use Rattle.common.proofs.Cases.{on-same}
-use Rattle.memory.proofs.Slots.{Free, bare-by}
-use Rattle.memory_laws.specs.Planted.{Planted}
-use Rattle.memory_laws.specs.Bytes.{length-plain, plain-at, plain-under, plain-bare, plain-is, laid-is, planted-at, planted-by}
-use Rattle.memory_laws.specs.Bytes.{overwritten-at, length-overwritten, length-mem-after, mem-under, mem-bare, plain-after}
+use Rattle.memory.proofs.Site.{Free}
+use Rattle.memory.proofs.Slots.{none-covered}
+use Rattle.memory.proofs.Bytes.{length-plain, plain-at, plain-under, plain-bare, plain-is, laid-is}
+use Rattle.memory.proofs.Bytes.{overwritten-at, length-overwritten, length-mem-after, mem-under, mem-bare, plain-after}
+use Rattle.memory_laws.specs.Planted.{Planted, planted-at, planted-by}
 
 -- real memory is plain memory with the traps laid over it
 pub laid-plain : (t sites plain mem : List ℕ) → Planted t sites mem
@@ -40,12 +40,9 @@ laid-same t sites sites′ bytes same = tab-ext (length bytes) _ _ (λ i h. rw (
 pub read-plain : (w : ℕ) (sites plain mem : List ℕ) (at n m : ℕ) → at + n ≤ length mem
     → readOf w sites plain mem at n m ≡ bytesAt (plainOf w sites plain mem) at n m
 unfolding readOf bytesAt
-read-plain w sites plain mem at n m fits = tab-ext m _ _ (λ j h. by j (ltb j n) refl)
-  where
-    by : (j : ℕ) (c : Bool) → ltb j n ≡ c
-        → cond c (plainAt w sites plain mem (at + j)) 0 ≡ cond c (getD (plainOf w sites plain mem) (at + j) 0) 0
-    by j true e = sym (plain-at w sites plain mem (at + j) (omega (arith, ltb-true j n e)))
-    by j false e = refl
+read-plain w sites plain mem at n m fits =
+    fill-ext (λ j. plainAt w sites plain mem (at + j)) (λ _. 0) n m (λ j. getD (plainOf w sites plain mem) (at + j) 0)
+    (λ j h. sym (plain-at w sites plain mem (at + j) (omega arith)))
 
 -- a read after a write: a write puts its bytes into plain memory and changes nothing else there
 pub plain-written : (w : ℕ) (sites plain mem : List ℕ) (at : ℕ) (bytes : List ℕ) → 0 < w → length plain ≡ length sites * w
@@ -55,7 +52,7 @@ plain-written w sites plain mem at bytes pos fits =
     plain-is w sites (plainAfter w sites plain at bytes) (memAfter w sites mem at bytes) (overwritten old at bytes)
     (length-overwritten old at bytes ∙ size ∙ sym after)
     (λ i h e. now i (omega (arith, after)) ∙ rw (plain-under w sites plain mem i e)
-    (sym (plain-after w sites plain at bytes pos fits i e)))
+    (sym (plain-after w pos sites i e plain at bytes fits)))
     (λ i h e. now i (omega (arith, after)) ∙ rw (plain-bare w sites plain mem i e)
     (sym (mem-bare w sites mem at bytes i (omega (arith, after)) e)))
   where
@@ -80,16 +77,6 @@ planted-written t sites mem at bytes p =
     mem-under (length t) sites mem at bytes i g e ∙ planted-at t sites mem p i g e)
 
 -- ---- a table of free slots
-
-module _ (w : ℕ) (sites : List ℕ) (free : (j : ℕ) → j < length sites → Free w (getD sites j 0)) where
-  -- no offset is under a trap
-  pub none-covered : (i : ℕ) → covered w sites i ≡ false
-  none-covered i = bare-by w sites i (λ j h e. free j h i (sym e))
-
-  -- plain memory is real memory
-  pub no-traps : (plain mem : List ℕ) → plainOf w sites plain mem ≡ mem
-  no-traps plain mem =
-      plain-is w sites plain mem mem refl (λ i h e. true-or-false (sym (none-covered i) ∙ e)) (λ i h e. refl)
 
 -- any memory holds its traps
 pub no-traps-planted : (t sites mem : List ℕ) → ((j : ℕ) → j < length sites → Free (length t) (getD sites j 0))

@@ -11,11 +11,10 @@ use lib.Seq.{getD-set-same, getD-set-other}
 use Rattle.common.proofs.Same.{true-or-false}
 use Rattle.memory.specs.Overlay.{siteOver, slotOf, covered, plainAt, plainOf, laidOver}
 use Rattle.common.proofs.Cases.{on-same}
-use Rattle.memory.proofs.Site.{site-place}
-use Rattle.memory.proofs.Slots.{Free, slot-below, slot-site, slot-only, covered-by, covered-same, slot-kept, slot-new}
-use Rattle.memory_laws.specs.Planted.{Planted}
-use Rattle.memory_laws.specs.Bytes.{length-plain, plain-at, plain-under, plain-bare, plain-is}
-use Rattle.memory_laws.specs.Bytes.{length-laid, laid-here, laid-away, planted-at, planted-by}
+use Rattle.memory.proofs.Site.{site-place, Free}
+use Rattle.memory.proofs.Slots.{slot-below, slot-site, slot-only, covered-by, covered-same, slot-kept, covered-kept, slot-new}
+use Rattle.memory.proofs.Bytes.{length-plain, plain-at, plain-under, plain-bare, plain-is, length-laid, laid-here, laid-away}
+use Rattle.memory_laws.specs.Planted.{Planted, planted-at, planted-by}
 
 -- the plain bytes of every slot but k are as they were
 abbrev pub KeptBut : ℕ → List ℕ → ℕ → List ℕ → List ℕ → Type 0
@@ -31,36 +30,38 @@ kept-at w sites plain plain′ mem k z i pos kept e q n =
     let o : slotOf w sites i ≡ k → ⊥ = λ y. n (sym (slot-site w sites i c) ∙ ap (λ (j : ℕ). getD sites j 0) y) in
     plain-under w sites plain mem i c ∙ rw q (sym (kept (slotOf w sites i) (i % w) (slot-below w sites i c) (mod-lt i pos) o))
 
+-- plain memory is as it was where each plain byte that was is the slot's now, or memory's where no trap stands now
+same-plain : (w : ℕ) (sites plain mem sites′ plain′ mem′ : List ℕ) → length mem′ ≡ length mem
+    → ((i : ℕ) → i < length mem → covered w sites′ i ≡ true
+    → plainAt w sites plain mem i ≡ getD plain′ (slotOf w sites′ i * w + i % w) 0)
+    → ((i : ℕ) → i < length mem → covered w sites′ i ≡ false → plainAt w sites plain mem i ≡ getD mem′ i 0)
+    → plainOf w sites′ plain′ mem′ ≡ plainOf w sites plain mem
+same-plain w sites plain mem sites′ plain′ mem′ size under bare =
+    plain-is w sites′ plain′ mem′ (plainOf w sites plain mem) (length-plain w sites plain mem ∙ sym size)
+    (λ i h e. plain-at w sites plain mem i (omega arith) ∙ under i (omega arith) e)
+    (λ i h e. plain-at w sites plain mem i (omega arith) ∙ bare i (omega arith) e)
+
 -- ---- planting: the site s goes into slot k, which was free, and the trap is laid over s
 
 module _ (t sites mem : List ℕ) (k s : ℕ) (free : Free (length t) (getD sites k 0)) where
-  -- an offset elsewhere is under a trap if it was
-  elsewhere : (i : ℕ) → (siteOver (length t) i ≡ s → ⊥) → covered (length t) (set sites k s) i ≡ covered (length t) sites i
-  elsewhere i n = covered-same (length t) sites k s i (slot-kept (length t) sites k s i n (free i))
-
   -- planting leaves plain memory as it was; the slot's plain bytes are those of the moment
   pub planted-plain : (plain plain′ : List ℕ) → 0 < length t → k < length sites
       → ((r : ℕ) → r < length t → getD plain′ (k * length t + r) 0 ≡ plainAt (length t) sites plain mem (s + r))
       → KeptBut (length t) sites k plain plain′
       → plainOf (length t) (set sites k s) plain′ (laidOver t (s ∷ []) mem) ≡ plainOf (length t) sites plain mem
   planted-plain plain plain′ pos below fresh kept =
-      plain-is w sites′ plain′ mem′ (plainOf w sites plain mem) (length-plain w sites plain mem ∙ sym laid)
-      (λ i h e. plain-at w sites plain mem i (omega (arith, laid))
-      ∙ ⊎-elim (here i e) (λ q. kept-at w sites plain plain′ mem k s i pos kept e q (free i)) (slot-new w sites k s i free))
-      (λ i h e. plain-at w sites plain mem i (omega (arith, laid)) ∙ bare i (omega (arith, laid))
-      (λ q. true-or-false (sym e ∙ covered-by w sites′ i k (omega (arith, length-set sites k s)) (new ∙ sym q))) e)
+      same-plain w sites plain mem sites′ plain′ (laidOver t (s ∷ []) mem) (length-laid t (s ∷ []) mem)
+      (λ i h e. ⊎-elim (here i e) (λ q. kept-at w sites plain plain′ mem k s i pos kept e q (free i)) (slot-new w sites k s i free))
+      (λ i h e.
+      let n : siteOver w i ≡ s → ⊥ =
+      λ q. true-or-false (sym e ∙ covered-by w sites′ i k (omega (arith, length-set sites k s)) (new ∙ sym q)) in
+      plain-bare w sites plain mem i (sym (covered-kept w sites k s i n (free i)) ∙ e) ∙ sym (laid-away t s mem i h n))
     where
       w : ℕ
       w = length t
 
       sites′ : List ℕ
       sites′ = set sites k s
-
-      mem′ : List ℕ
-      mem′ = laidOver t (s ∷ []) mem
-
-      laid : length mem′ ≡ length mem
-      laid = length-laid t (s ∷ []) mem
 
       new : getD sites′ k 0 ≡ s
       new = getD-set-same sites k s 0 below
@@ -72,10 +73,6 @@ module _ (t sites mem : List ℕ) (k s : ℕ) (free : Free (length t) (getD site
           let place : i ≡ s + i % w = omega (arith, site-place w i) in
           ap (plainAt w sites plain mem) place ∙ rw q (sym (fresh (i % w) (mod-lt i pos)))
 
-      bare : (i : ℕ) → i < length mem → (siteOver w i ≡ s → ⊥) → covered w sites′ i ≡ false
-          → plainAt w sites plain mem i ≡ getD mem′ i 0
-      bare i g n e = plain-bare w sites plain mem i (sym (elsewhere i n) ∙ e) ∙ sym (laid-away t s mem i g n)
-
   -- and every trap stands, the new one too
   pub planted-more : Planted t sites mem → Planted t (set sites k s) (laidOver t (s ∷ []) mem)
   planted-more p =
@@ -83,7 +80,7 @@ module _ (t sites mem : List ℕ) (k s : ℕ) (free : Free (length t) (getD site
       (λ i h e. let g : i < length mem = omega (arith, length-laid t (s ∷ []) mem) in
       on-same (siteOver (length t) i) s
       (λ q. laid-here t s mem i g q)
-      (λ n. laid-away t s mem i g n ∙ planted-at t sites mem p i g (sym (elsewhere i n) ∙ e)))
+      (λ n. laid-away t s mem i g n ∙ planted-at t sites mem p i g (sym (covered-kept (length t) sites k s i n (free i)) ∙ e)))
 
 -- ---- removing: slot k becomes free, with the site z, and b, its plain bytes, is laid over its site, which no other slot has
 
@@ -98,9 +95,6 @@ module _ (w : ℕ) (sites mem b : List ℕ) (k z : ℕ) (wide : length b ≡ w) 
   abbrev mem′ : List ℕ
   mem′ = laidOver b (s ∷ []) mem
 
-  laid : length mem′ ≡ length mem
-  laid = length-laid b (s ∷ []) mem
-
   -- an offset that is still under a trap is not at the site
   off : (i : ℕ) → covered w sites′ i ≡ true → siteOver w i ≡ s → ⊥
   off i e q = on-same j k
@@ -113,13 +107,7 @@ module _ (w : ℕ) (sites mem b : List ℕ) (k z : ℕ) (wide : length b ≡ w) 
       at : getD sites′ j 0 ≡ siteOver w i
       at = slot-site w sites′ i e
 
-  -- an offset elsewhere has the slot that it had, and its byte of memory
-  same-slot : (i : ℕ) → (siteOver w i ≡ s → ⊥) → slotOf w sites′ i ≡ slotOf w sites i
-  same-slot i n = slot-kept w sites k z i (free i) n
-
-  same-cover : (i : ℕ) → (siteOver w i ≡ s → ⊥) → covered w sites′ i ≡ covered w sites i
-  same-cover i n = covered-same w sites k z i (same-slot i n)
-
+  -- an offset elsewhere has its byte of memory
   same-byte : (i : ℕ) → i < length mem → (siteOver w i ≡ s → ⊥) → getD mem′ i 0 ≡ getD mem i 0
   same-byte i h = rw wide at (laid-away b s mem i h)
 
@@ -128,17 +116,13 @@ module _ (w : ℕ) (sites mem b : List ℕ) (k z : ℕ) (wide : length b ≡ w) 
       → KeptBut w sites k plain plain′
       → plainOf w (set sites k z) plain′ (laidOver b (getD sites k 0 ∷ []) mem) ≡ plainOf w sites plain mem
   removed-plain plain plain′ pos bytes kept =
-      plain-is w sites′ plain′ mem′ (plainOf w sites plain mem) (length-plain w sites plain mem ∙ sym laid)
-      (λ i h e. plain-at w sites plain mem i (omega (arith, laid))
-      ∙ kept-at w sites plain plain′ mem k z i pos kept e (same-slot i (off i e)) (off i e))
-      (λ i h e. plain-at w sites plain mem i (omega (arith, laid)) ∙ bare i (omega (arith, laid)) e)
-    where
-      bare : (i : ℕ) → i < length mem → covered w sites′ i ≡ false → plainAt w sites plain mem i ≡ getD mem′ i 0
-      bare i g e = on-same (siteOver w i) s
-          (λ q. plain-under w sites plain mem i (covered-by w sites i k below (sym q))
-          ∙ rw (slot-only w sites i k below (sym q) only) (sym (bytes (i % w) (mod-lt i pos)))
-          ∙ sym ((rw wide at (laid-here b s mem i g)) q))
-          (λ n. plain-bare w sites plain mem i (sym (same-cover i n) ∙ e) ∙ sym (same-byte i g n))
+      same-plain w sites plain mem sites′ plain′ mem′ (length-laid b (s ∷ []) mem)
+      (λ i h e. kept-at w sites plain plain′ mem k z i pos kept e (slot-kept w sites k z i (free i) (off i e)) (off i e))
+      (λ i h e. on-same (siteOver w i) s
+      (λ q. plain-under w sites plain mem i (covered-by w sites i k below (sym q))
+      ∙ rw (slot-only w sites i k below (sym q) only) (sym (bytes (i % w) (mod-lt i pos)))
+      ∙ sym ((rw wide at (laid-here b s mem i h)) q))
+      (λ n. plain-bare w sites plain mem i (sym (covered-kept w sites k z i (free i) n) ∙ e) ∙ sym (same-byte i h n)))
 
   -- and every other trap stands
   pub removed-planted : (t : List ℕ) → length t ≡ w → Planted t sites mem
@@ -146,5 +130,5 @@ module _ (w : ℕ) (sites mem b : List ℕ) (k z : ℕ) (wide : length b ≡ w) 
   removed-planted t len p =
       planted-by t sites′ mem′
       (λ i h e. let c : covered w sites′ i ≡ true = rw len at e in
-      let g : i < length mem = omega (arith, laid) in
-      same-byte i g (off i c) ∙ planted-at t sites mem p i g (rw len (sym (same-cover i (off i c)) ∙ c)))
+      let g : i < length mem = omega (arith, length-laid b (s ∷ []) mem) in
+      same-byte i g (off i c) ∙ planted-at t sites mem p i g (rw len (sym (covered-kept w sites k z i (free i) (off i c)) ∙ c)))

@@ -4,7 +4,8 @@ use mathlib.Core.List.{List, [], _∷_}
 use Prim.Native.Nat.{ℕ}
 use Rattle.common.specs.First.{firstOf}
 use Rattle.common.specs.Tab.{tab}
-use Rattle.memory.specs.Overlay.{trap, noSite, siteOver, slotOf, covered, plainAt, plainOf, laidAt, laidOver}
+use Rattle.memory.specs.Head.{trapBytes, house}
+use Rattle.memory.specs.Overlay.{noSite, siteOver, slotOf, covered, plainAt, plainOf, laidAt, laidOver}
 use Rattle.memory.specs.Write.{readOf, writtenAt, overwritten, memAfter, offsetOf, plainAfter}
 
 -- a window of twelve bytes
@@ -33,7 +34,7 @@ plain′ = 4 ∷ 0xaa ∷ 0xbb ∷ 0xcc ∷ 0xdd ∷ 9 ∷ 0 ∷ 0 ∷ []
 
 pub record Worked : Type 0 where
   -- the traps laid over the window are real memory, and its plain memory is the window
-  pub laid : laidOver trap sites window ≡ mem
+  pub laid : laidOver (trapBytes house) sites window ≡ mem
   pub whole : plainOf 2 sites plain mem ≡ window
   -- the write leaves real memory as it was, and goes to the plain bytes
   pub real : memAfter 2 sites mem 5 bytes ≡ mem

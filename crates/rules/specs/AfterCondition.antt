@@ -16,6 +16,7 @@ use Rattle.condition.specs.Depth.{wellFormed}
 use Rattle.condition.specs.declared.Room.{Room}
 use Rattle.condition.specs.declared.Room.the-variants.{Fits, Full, Short}
 use Rattle.fit.specs.Fit.{entryAt, entryOf}
+use Rattle.memory.specs.Head.{Head}
 use Rattle.target.specs.Free.{firstFree}
 use Rattle.target.specs.Fresh.{closedDraft}
 use Rattle.target.specs.declared.Draft.{Draft}
@@ -45,7 +46,7 @@ unfolding withElement joins pendingOf
 joins-both d o e room v h =
     rw (v h, add-one (d .count), take-suc-set (d .elements) (d .count) e room)
 
-module _ (s : Setup) (b : Book) (t : Target) (mem regs : List ℕ) (a : Agree s b t mem) where
+module _ {head : Head} (s : Setup) (b : Book) (t : Target) (mem regs : List ℕ) (a : Agree head s b t mem) where
   abbrev w : World
   w = world t mem regs
 
@@ -88,7 +89,7 @@ module _ (s : Setup) (b : Book) (t : Target) (mem regs : List ℕ) (a : Agree s 
 
   -- b
   after-set : (val : ℕ)
-      → Fed s b (withBreakpoints (withDraft b none) (sets (b .draft) val (b .breakpoints))) (setBreakpoint w val)
+      → Fed s b (withBreakpoints (withDraft b none) (sets (b .draft) val (b .breakpoints))) (setBreakpoint head w val)
   unfolding setBreakpoint inHand typeOf
   after-set val =
       let d = t .table .draft in
@@ -117,7 +118,7 @@ module _ (s : Setup) (b : Book) (t : Target) (mem regs : List ℕ) (a : Agree s 
       (λ j u q. facts-of t mem (a .good) .idsDiffer j k u used (eqb-true _ _ q ∙ sym here))))
       (λ e. fed-error s b _ w Inval v)
 
-  pub after-condbreak : (val op : ℕ) → Fed s b (bookCondbreak b val op) (condbreak w val op)
+  pub after-condbreak : (val op : ℕ) → Fed s b (bookCondbreak b val op) (condbreak head w val op)
   unfolding bookCondbreak condbreak
   after-condbreak val op =
       fed-cond s b _ _ _ _ (eqb op (code "n")) (after-begin val)

@@ -10,6 +10,7 @@ use lib.ListN.{length, take}
 use Rattle.common.specs.First.{firstOf}
 use Rattle.common.specs.Keys.{among}
 use Rattle.fit.specs.Fit.{processAt, entryAt}
+use Rattle.memory.specs.Head.{Head}
 use Rattle.memory.specs.Place.{placeOf}
 use Rattle.memory.specs.Write.{overwritten}
 use Rattle.memory.specs.declared.Place.{Place}
@@ -41,7 +42,7 @@ use Rattle.rules.specs.AfterCondition.{after-failed, after-condbreak}
 use Rattle.rules.specs.Moves.{move-current, move-state, move-removed, move-none, move-written}
 use Rattle.rules.specs.Fed.{on-block, on-process, Fed, fed-error, fed-reply}
 
-module _ (s : Setup) (b : Book) (t : Target) (mem regs : List ℕ) (a : Agree s b t mem) where
+module _ {head : Head} (s : Setup) (b : Book) (t : Target) (mem regs : List ℕ) (a : Agree head s b t mem) where
   abbrev w : World
   w = world t mem regs
 
@@ -195,7 +196,7 @@ module _ (s : Setup) (b : Book) (t : Target) (mem regs : List ℕ) (a : Agree s 
   -- ---- every request
 
   -- a message
-  after-served : (m : Message) → Fed s b (bookServed s b regs m) (serve w m)
+  after-served : (m : Message) → Fed s b (bookServed s b regs m) (serve head w m)
   unfolding bookServed serve
   after-served (Tmget addr n) = after-mget addr n
   after-served (Tmput addr n d) = after-mput addr n d
@@ -216,7 +217,7 @@ module _ (s : Setup) (b : Book) (t : Target) (mem regs : List ℕ) (a : Agree s 
   after-served Rcondbreak = fed-error s b b w Inval v
 
   -- ten bytes
-  pub after-request : (p : Parsed) (bytes reply : List ℕ) → Fed s b (bookRequest s b regs p) (requestBy p w bytes reply)
+  pub after-request : (p : Parsed) (bytes reply : List ℕ) → Fed s b (bookRequest s b regs p) (requestBy head p w bytes reply)
   unfolding bookRequest requestBy refusedBy refused isAccepted
   after-request (Request m) bytes reply = after-served m
   after-request (Refused r) bytes reply =

@@ -7,6 +7,7 @@ use lib.Dec.{ltb, eqb}
 use lib.ListN.{length}
 use Rattle.common.specs.Keys.{among}
 use Rattle.fit.specs.Fit.{stopped, processAt}
+use Rattle.memory.specs.Head.{Head}
 use Rattle.request.specs.Request.{parseOf}
 use Rattle.target.specs.declared.Entry.{Entry}
 use Rattle.target.specs.declared.Target.{Target}
@@ -25,7 +26,7 @@ use Rattle.rules.specs.Moves.{move-state, move-restart}
 use Rattle.rules.specs.Fed.{on-checked, on-listed, Fed}
 use Rattle.rules.specs.AfterRequest.{after-request}
 
-module _ (s : Setup) (b : Book) (t : Target) (mem regs : List ℕ) (a : Agree s b t mem) where
+module _ {head : Head} (s : Setup) (b : Book) (t : Target) (mem regs : List ℕ) (a : Agree head s b t mem) where
   abbrev w : World
   w = world t mem regs
 
@@ -47,11 +48,11 @@ module _ (s : Setup) (b : Book) (t : Target) (mem regs : List ℕ) (a : Agree s 
       (sym (ap (among (pid ∷ b .stopped)) q ∙ among-here pid (b .stopped)))
       (λ j g n. among-more pid _ (b .stopped) (λ p. n (facts-of t mem (a .good) .pidsDiffer j i g h (p ∙ sym q))))
 
-  after-trapped : (pid : ℕ) (block : List ℕ) (e : Entry) → indexOf t pid < t .count → Told pid (trapped w (indexOf t pid) pid block e)
+  after-trapped : (pid : ℕ) (block : List ℕ) (e : Entry) → indexOf t pid < t .count → Told pid (trapped head w (indexOf t pid) pid block e)
   unfolding trapped answered bookAnswer
-  after-trapped pid block e h = choose (Told pid) (holds w pid e) (λ g. halted pid block h) (λ g. v)
+  after-trapped pid block e h = choose (Told pid) (holds head w pid e) (λ g. halted pid block h) (λ g. v)
 
-  after-trap : (pid : ℕ) (block : List ℕ) → Told pid (trap w pid block)
+  after-trap : (pid : ℕ) (block : List ℕ) → Told pid (trap head w pid block)
   unfolding trap refused
   after-trap pid block =
       on-listed (Told pid) w pid _
@@ -80,19 +81,20 @@ module _ (s : Setup) (b : Book) (t : Target) (mem regs : List ℕ) (a : Agree s 
       v
 
 -- every step
-pub after-step : (s : Setup) (b : Book) (t : Target) (mem : List ℕ) → Agree s b t mem → (e : Step)
-    → let o = stepOf t mem e in Follows s (fed s b e (o .number) (o .answer) (o .reply)) (o .after .target) (o .after .mem)
+pub after-step : {head : Head} (s : Setup) (b : Book) (t : Target) (mem : List ℕ) → Agree head s b t mem → (e : Step)
+    → let o = stepOf head t mem e in Follows s (fed s b e (o .number) (o .answer) (o .reply)) (o .after .target) (o .after .mem)
 unfolding stepOf requestOf trapOf scheduleOf stateOf restartOf fed refused isAccepted restart replied
-after-step s b t mem a (request regs bytes reply) =
-    on-checked (Fed s b (bookRequest s b regs (parseOf bytes))) (world t mem regs) _ reply _ (a .follows) (a .follows)
+after-step {head} s b t mem a (request regs bytes reply) =
+    on-checked (Fed s b (bookRequest s b regs (parseOf bytes))) (world t mem regs) head _ reply _ (a .follows) (a .follows)
     (after-request s b t mem regs a (parseOf bytes) bytes reply)
-after-step s b t mem a (trapEvent regs pid block) =
-    on-checked (Told s b t mem regs a pid) (world t mem regs) _ [] _ (a .follows) (a .follows) (after-trap s b t mem regs a pid block)
-after-step s b t mem a (scheduleEvent regs pid block) =
-    on-checked (Told s b t mem regs a pid) (world t mem regs) _ [] _ (a .follows) (a .follows) (after-schedule s b t mem regs a pid block)
-after-step s b t mem a (stateEvent regs pid value) =
-    on-checked (λ o. Follows s b (o .after .target) (o .after .mem)) (world t mem regs) true [] _ (a .follows) (a .follows)
+after-step {head} s b t mem a (trapEvent regs pid block) =
+    on-checked (Told s b t mem regs a pid) (world t mem regs) head _ [] _ (a .follows) (a .follows) (after-trap s b t mem regs a pid block)
+after-step {head} s b t mem a (scheduleEvent regs pid block) =
+    on-checked (Told s b t mem regs a pid) (world t mem regs) head _ [] _ (a .follows) (a .follows)
+    (after-schedule s b t mem regs a pid block)
+after-step {head} s b t mem a (stateEvent regs pid value) =
+    on-checked (λ o. Follows s b (o .after .target) (o .after .mem)) (world t mem regs) head true [] _ (a .follows) (a .follows)
     (after-state s b t mem regs a pid value)
-after-step s b t mem a (restartStep regs reply) =
+after-step {head} s b t mem a (restartStep regs reply) =
     on-checked (λ o. Follows s (cond (eqb (o .number) 0) (withStopped (withBreakpoints b []) []) b) (o .after .target) (o .after .mem))
-    (world t mem regs) _ reply _ (a .follows) (a .follows) (move-restart s b t mem (a .follows) regs)
+    (world t mem regs) head _ reply _ (a .follows) (a .follows) (move-restart s b t mem (a .follows) regs)

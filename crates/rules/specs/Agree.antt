@@ -9,6 +9,7 @@ use lib.Dec.{eqb}
 use lib.ListN.{take}
 use Rattle.common.specs.Keys.{among}
 use Rattle.fit.specs.Fit.{processAt, entryAt}
+use Rattle.memory.specs.Head.{Head}
 use Rattle.memory.specs.Overlay.{plainOf}
 use Rattle.target.specs.declared.Draft.{Draft}
 use Rattle.target.specs.declared.Entry.{Entry}
@@ -69,6 +70,6 @@ pub record Follows (s : Setup) (b : Book) (t : Target) (mem : List ℕ) : Type 0
   pub stopped : Halted (t .count) (t .processes) (b .stopped)
 
 -- and the record is fit
-pub record Agree (s : Setup) (b : Book) (t : Target) (mem : List ℕ) : Type 0 where
-  pub good : Good t mem
+pub record Agree (head : Head) (s : Setup) (b : Book) (t : Target) (mem : List ℕ) : Type 0 where
+  pub good : Good head t mem
   pub follows : Follows s b t mem

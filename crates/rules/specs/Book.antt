@@ -1,5 +1,8 @@
 -- 01, "The book of demand 3": the book, what feeds it, and the claim about every list of steps. This file says what is promised; it
 -- cites the rules (what the steps answer) and nothing of the proof. The theorem is `demand3` in Theorem.antt.
+--
+-- h is the head (Head.antt of memory): its trap, two bytes as they stand in memory, and the value of a word's bytes. 01 has the house's:
+-- "in memory the bytes 02 90", and words "low-order first".
 use mathlib.Core.Path.{_≡_}
 use Prim.Native.Nat.{ℕ, _+_, _-_}
 use Prim.Native.Char.{code}
@@ -8,13 +11,13 @@ use mathlib.Core.List.{List, [], _∷_, _++_, map}
 use mathlib.Core.Option.{Option, none, some}
 use lib.Dec.{leb, ltb, eqb}
 use lib.ListN.{getD, take, set}
-use Rattle.common.specs.Bytes.{ofLowFirst}
 use Rattle.common.specs.First.{firstOf}
 use Rattle.common.specs.Keys.{among}
 use Rattle.condition.specs.Evaluate.{evalFrom}
 use Rattle.condition.specs.declared.Fetched.{Fetched}
 use Rattle.condition.specs.declared.Fetched.the-variants.{Word, Outside}
-use Rattle.memory.specs.Overlay.{trap, covered, laidOver}
+use Rattle.memory.specs.Head.{Head, trapBytes}
+use Rattle.memory.specs.Overlay.{covered, laidOver}
 use Rattle.memory.specs.Place.{placeOf}
 use Rattle.memory.specs.Write.{bytesAt, overwritten}
 use Rattle.memory.specs.declared.Place.{Place}
@@ -187,8 +190,8 @@ unfoldable pub sitesBy : Setup → Book → List ℕ
 sitesBy s b = map (λ x. x .site - s .base) (b .breakpoints)
 
 -- "plain memory with the traps of the breakpoints in force laid over it, nothing else"
-unfoldable pub realBy : Setup → Book → List ℕ
-realBy s b = laidOver trap (sitesBy s b) (b .plain)
+unfoldable pub realBy : Head → Setup → Book → List ℕ
+realBy h s b = laidOver (trapBytes h) (sitesBy s b) (b .plain)
 
 -- "A byte is under a trap when a breakpoint in the book has its trap there"
 unfoldable pub underTrap : Setup → Book → ℕ → Bool
@@ -221,33 +224,33 @@ ReadsRequest s b (Request m) reply = ReadsMessage s b m reply
 ReadsRequest s b (Refused r) reply = Unit
 ReadsRequest s b NotTen reply = Unit
 
--- what * reads: plain memory's bytes, low-order first
-unfoldable pub fetchBy : Setup → Book → ℕ → Fetched
-fetchBy s b a =
-    cond (leb (s .base) a && leb (a + 4) (s .base + s .size)) (Word (ofLowFirst (bytesAt (b .plain) (a - s .base) 4 4))) Outside
+-- what * reads: plain memory's four bytes, as a word of the head
+unfoldable pub fetchBy : Head → Setup → Book → ℕ → Fetched
+fetchBy h s b a =
+    cond (leb (s .base) a && leb (a + 4) (s .base + s .size)) (Word (h .word (bytesAt (b .plain) (a - s .base) 4 4))) Outside
 
 -- "An accepted trap event answers by its rule over the book's breakpoints and plain memory"
-unfoldable pub answerOf : Setup → Book → ℕ → Breakpoint → Answer
-answerOf s b pid x =
-    cond (evalFrom (fetchBy s b) pid (x .elements) (1 ∷ [])) (Stop (x .id))
+unfoldable pub answerOf : Head → Setup → Book → ℕ → Breakpoint → Answer
+answerOf h s b pid x =
+    cond (evalFrom (fetchBy h s b) pid (x .elements) (1 ∷ [])) (Stop (x .id))
     (Pass (getD (b .plain) (x .site - s .base) 0) (getD (b .plain) (x .site - s .base + 1) 0))
 
-unfoldable pub answerAmong : Setup → Book → ℕ → ℕ → List Breakpoint → Answer
-answerAmong s b pid pc [] = Nothing
-answerAmong s b pid pc (x ∷ xs) = cond (eqb (x .site) pc) (answerOf s b pid x) (answerAmong s b pid pc xs)
+unfoldable pub answerAmong : Head → Setup → Book → ℕ → ℕ → List Breakpoint → Answer
+answerAmong h s b pid pc [] = Nothing
+answerAmong h s b pid pc (x ∷ xs) = cond (eqb (x .site) pc) (answerOf h s b pid x) (answerAmong h s b pid pc xs)
 
-unfoldable pub trapBy : Setup → Book → ℕ → List ℕ → Answer
-trapBy s b pid block = answerAmong s b pid (pcOf block) (b .breakpoints)
+unfoldable pub trapBy : Head → Setup → Book → ℕ → List ℕ → Answer
+trapBy h s b pid block = answerAmong h s b pid (pcOf block) (b .breakpoints)
 
 -- ---- what is claimed of one step, over the book as it stood before it
 
-unfoldable pub RightStep : Setup → Book → Step → Outcome → Type 0
-RightStep s b (request regs bytes buffer) o = isAccepted (o .number) (o .reply) ≡ true → ReadsRequest s b (parseOf bytes) (o .reply)
-RightStep s b (trapEvent regs pid block) o = o .number ≡ 0 → o .answer ≡ trapBy s b pid block
-RightStep s b (scheduleEvent regs pid block) o = Unit
-RightStep s b (stateEvent regs pid value) o = Unit
+unfoldable pub RightStep : Head → Setup → Book → Step → Outcome → Type 0
+RightStep h s b (request regs bytes buffer) o = isAccepted (o .number) (o .reply) ≡ true → ReadsRequest s b (parseOf bytes) (o .reply)
+RightStep h s b (trapEvent regs pid block) o = o .number ≡ 0 → o .answer ≡ trapBy h s b pid block
+RightStep h s b (scheduleEvent regs pid block) o = Unit
+RightStep h s b (stateEvent regs pid value) o = Unit
 -- "an accepted restart leaves exactly plain memory"
-RightStep s b (restartStep regs buffer) o = o .number ≡ 0 → o .after .mem ≡ b .plain
+RightStep h s b (restartStep regs buffer) o = o .number ≡ 0 → o .after .mem ≡ b .plain
 
 -- ---- lists: a step with everything lent to it, or an outside change of one byte of memory, by its offset
 
@@ -258,18 +261,18 @@ pub data Event : Type 0 where
 -- The claim about a list, from a record, its memory and the book:
 -- real memory is the book's; no step answers number 3 and each is right by the book; and so on over what the step leaves.
 -- An outside change is taken where no trap lies.
-unfoldable pub Claim : Setup → Book → Target → List ℕ → List Event → Type 0
-Claim s b t mem [] = mem ≡ realBy s b
-Claim s b t mem (step e ∷ es) =
-    let o = stepOf t mem e in
-    (mem ≡ realBy s b)
+unfoldable pub Claim : Head → Setup → Book → Target → List ℕ → List Event → Type 0
+Claim h s b t mem [] = mem ≡ realBy h s b
+Claim h s b t mem (step e ∷ es) =
+    let o = stepOf h t mem e in
+    (mem ≡ realBy h s b)
     × (o .number ≡ 3 → ⊥)
-    × RightStep s b e o
-    × Claim s (fed s b e (o .number) (o .answer) (o .reply)) (o .after .target) (o .after .mem) es
-Claim s b t mem (change i byte ∷ es) =
-    (mem ≡ realBy s b) × (underTrap s b i ≡ false → Claim s (withPlain b (set (b .plain) i byte)) t (set mem i byte) es)
+    × RightStep h s b e o
+    × Claim h s (fed s b e (o .number) (o .answer) (o .reply)) (o .after .target) (o .after .mem) es
+Claim h s b t mem (change i byte ∷ es) =
+    (mem ≡ realBy h s b) × (underTrap s b i ≡ false → Claim h s (withPlain b (set (b .plain) i byte)) t (set mem i byte) es)
 
--- "Over every list of steps after an accepted setup"
-abbrev pub Demand3 : Type 0
-Demand3 =
-    (s : Setup) → setupBy s .number ≡ 0 → (es : List Event) → Claim s (opened s) (setupBy s .after .target) (s .mem) es
+-- "Over every list of steps after an accepted setup", with this head
+abbrev pub Demand3 : Head → Type 0
+Demand3 h =
+    (s : Setup) → setupBy s .number ≡ 0 → (es : List Event) → Claim h s (opened s) (setupBy s .after .target) (s .mem) es

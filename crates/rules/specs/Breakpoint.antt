@@ -5,7 +5,8 @@ use mathlib.Core.List.{List, [], _∷_}
 use lib.Dec.{ltb, eqb}
 use lib.ListN.{length, set}
 use Rattle.common.specs.First.{firstOf}
-use Rattle.memory.specs.Overlay.{trap, plainAt, plainOf, laidOver}
+use Rattle.memory.specs.Head.{Head, trapBytes}
+use Rattle.memory.specs.Overlay.{plainAt, plainOf, laidOver}
 use Rattle.fit.specs.Arrays.{sitesOf, plainsOf}
 use Rattle.fit.specs.Fit.{entryAt}
 use Rattle.target.specs.Free.{isFree, firstFree}
@@ -53,12 +54,12 @@ madeEntry w site =
     (plainByte w (site - w .target .base) ∷ plainByte w (site - w .target .base + 1) ∷ [])
 
 -- "the trap is planted and nothing is in hand": "A new one takes the free entry of the lowest index"
-unfoldable pub planted : World → ℕ → World
-planted w site =
+unfoldable pub planted : Head → World → ℕ → World
+planted h w site =
     let t = w .target in
     let es = t .table .entries in
     world (withTable t (record { entries = set es (firstFree es) (madeEntry w site); draft = closedDraft }))
-    (laidOver trap ((site - t .base) ∷ []) (w .mem)) (w .regs)
+    (laidOver (trapBytes h) ((site - t .base) ∷ []) (w .mem)) (w .regs)
 
 -- ---- removing one
 

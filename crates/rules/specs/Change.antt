@@ -1,18 +1,27 @@
--- What an accepted request changes in the record.
+-- What a step changes in the record.
 use Prim.Native.Nat.{ℕ}
+use mathlib.Core.Bool.{cond}
 use mathlib.Core.List.{List, [], _∷_}
+use lib.Dec.{ltb}
 use lib.ListN.{set}
-use Rattle.condition.specs.Add.{addOf}
+use Rattle.condition.specs.Add.{withElement}
 use Rattle.target.specs.Free.{firstFree}
 use Rattle.target.specs.Fresh.{freshEntry, closedDraft}
+use Rattle.target.specs.declared.Draft.{Draft}
+use Rattle.target.specs.declared.Element.{Element}
 use Rattle.target.specs.declared.Entry.{Entry}
 use Rattle.target.specs.declared.Target.{Target}
 use Rattle.rules.specs.declared.Change.{Change}
-use Rattle.rules.specs.declared.Change.the-variants.{Same, Plain, Current, State, Begin, Add, Drop, Plant, Remove, Start}
+use Rattle.rules.specs.declared.Change.the-variants.{Same, Plain, Current, State, Begin, Add, Drop, Plant, Remove, Start, Restart}
 use Rattle.rules.specs.Record.{ready, withTable, withCurrent, withDraft, withEntries, setState}
 use Rattle.rules.specs.Breakpoint.{entryWith}
 use Rattle.rules.specs.Condition.{begun}
 use Rattle.rules.specs.Request.{withPlains}
+use Rattle.rules.specs.Event.{afterRestart}
+
+-- the condition in hand with one element more, as far as there is room
+unfoldable pub grown : Draft → Element → Draft
+grown d e = cond (ltb (d .count) 16) (withElement d e) d
 
 -- the record without the breakpoint at an index
 abbrev pub without : Target → ℕ → Target
@@ -25,7 +34,7 @@ applied t Plain plain = withEntries t (withPlains (t .table .entries) plain)
 applied t (Current pid) plain = withCurrent t 1 pid
 applied t (State i state wanted) plain = setState t i state wanted
 applied t (Begin id) plain = withDraft t (begun id)
-applied t (Add letter value) plain = withDraft t (addOf (t .table .draft) (record { letter = letter; value = value }) .draft)
+applied t (Add letter value) plain = withDraft t (grown (t .table .draft) (record { letter = letter; value = value }))
 applied t Drop plain = withDraft t closedDraft
 applied t (Plant site b0 b1) plain =
     let es = t .table .entries in
@@ -36,3 +45,4 @@ applied t (Plant site b0 b1) plain =
     })
 applied t (Remove k) plain = without t k
 applied t (Start i k) plain = without (setState t i ready 0) k
+applied t Restart plain = afterRestart t

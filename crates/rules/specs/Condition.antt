@@ -10,6 +10,7 @@ use Rattle.condition.specs.declared.Room.{Room}
 use Rattle.condition.specs.declared.Room.the-variants.{Fits, Full, Short}
 use Rattle.condition.specs.declared.Added.{Added}
 use Rattle.fit.specs.Fit.{entryOf}
+use Rattle.memory.specs.Head.{Head}
 use Rattle.target.specs.Free.{firstFree}
 use Rattle.target.specs.Fresh.{closedDraft, noElement}
 use Rattle.target.specs.declared.Draft.{Draft}
@@ -64,10 +65,10 @@ siteFree w val =
     eqb (val % 2) 0 && leb (t .base) val && leb (val + 2) (t .base + t .size) && leb (length es) (breakpointAt es val)
 
 -- "b val: nothing in hand, odd or outside site, site taken, or depth not 1: inval"
-unfoldable pub setBreakpoint : World → ℕ → Outcome
-setBreakpoint w val =
+unfoldable pub setBreakpoint : Head → World → ℕ → Outcome
+setBreakpoint h w val =
     let d = w .target .table .draft in
-    cond (inHand w && siteFree w val && wellFormed (d .elements) (d .count)) (replied Rcondbreak (planted w val)) (failed Inval w)
+    cond (inHand w && siteFree w val && wellFormed (d .elements) (d .count)) (replied Rcondbreak (planted h w val)) (failed Inval w)
 
 -- "d val: the breakpoint is removed .. Unknown id: inval. The condition in hand stays in either case"
 unfoldable pub deleteBreakpoint : World → ℕ → Outcome
@@ -77,9 +78,9 @@ deleteBreakpoint w val =
     cond (leb val 255 && ltb k (length es)) (replied Rcondbreak (removed w k)) (error Inval w)
 
 -- a Tcondbreak that is a message, by its letter
-unfoldable pub condbreak : World → ℕ → ℕ → Outcome
-condbreak w val op =
+unfoldable pub condbreak : Head → World → ℕ → ℕ → Outcome
+condbreak h w val op =
     cond (eqb op (code "n")) (beginCondition w val)
-    (cond (eqb op (code "b")) (setBreakpoint w val)
+    (cond (eqb op (code "b")) (setBreakpoint h w val)
     (cond (eqb op (code "d")) (deleteBreakpoint w val)
     (addElement w (record { letter = op; value = val }))))

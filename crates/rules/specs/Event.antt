@@ -6,9 +6,11 @@ use lib.Dec.{ltb, eqb}
 use lib.ListN.{length, getD, take, drop}
 use Rattle.condition.specs.Evaluate.{evaluateOf, fetchOf}
 use Rattle.fit.specs.Fit.{stopped, processAt, entryAt}
+use Rattle.memory.specs.Head.{Head}
 use Rattle.target.specs.Fresh.{freshTable}
 use Rattle.target.specs.declared.Entry.{Entry}
 use Rattle.target.specs.declared.Process.{Process}
+use Rattle.target.specs.declared.Target.{Target}
 use Rattle.wire.specs.declared.Message.the-variants.{Rerr}
 use Rattle.text.specs.declared.Reason.the-variants.{Reset}
 use Rattle.rules.specs.declared.Answer.the-variants.{Nothing, Stop, Pass, Yes, No}
@@ -26,25 +28,25 @@ onListed w pid serve =
 -- ---- Trap
 
 -- the condition of a breakpoint, over plain memory
-unfoldable pub holds : World → ℕ → Entry → Bool
-holds w pid e =
+unfoldable pub holds : Head → World → ℕ → Entry → Bool
+holds h w pid e =
     let t = w .target in
-    evaluateOf (fetchOf (sites t) (plains t) (w .mem) (t .base)) pid (e .elements) (e .count)
+    evaluateOf (fetchOf h (sites t) (plains t) (w .mem) (t .base)) pid (e .elements) (e .count)
 
 -- "True: the block is saved, the process is Stopped, its mark cleared, answer Stop with the id. False: nothing changes, answer Pass"
-unfoldable pub trapped : World → ℕ → ℕ → List ℕ → Entry → Outcome
-trapped w i pid block e =
-    cond (holds w pid e) (answered (Stop (e .id)) (stopWith w i block))
+unfoldable pub trapped : Head → World → ℕ → ℕ → List ℕ → Entry → Outcome
+trapped h w i pid block e =
+    cond (holds h w pid e) (answered (Stop (e .id)) (stopWith w i block))
     (answered (Pass (getD (e .plain) 0 0) (getD (e .plain) 1 0)) w)
 
 -- numbers 5 and 6: "trap .. for a Stopped process"; "trap whose pc is at no site"
-unfoldable pub trap : World → ℕ → List ℕ → Outcome
-trap w pid block =
+unfoldable pub trap : Head → World → ℕ → List ℕ → Outcome
+trap h w pid block =
     onListed w pid
     (λ i p.
     let es = w .target .table .entries in
     let k = breakpointAt es (pcOf block) in
-    cond (isStopped p) (refused 5 w []) (cond (ltb k (length es)) (trapped w i pid block (entryAt es k)) (refused 6 w [])))
+    cond (isStopped p) (refused 5 w []) (cond (ltb k (length es)) (trapped h w i pid block (entryAt es k)) (refused 6 w [])))
 
 -- ---- Schedule: "if a stop is wanted, save, state Stopped, clear the mark, answer yes. Otherwise nothing changes, answer no"
 
@@ -67,19 +69,18 @@ state w pid value =
 unfoldable pub restarted : Process → Process
 restarted p = withState p (cond (isStopped p) ready (p .state)) 0
 
--- "every trap's plain bytes go back, the table is fresh, .. no process is current"; what no process fills stays as it is
+-- "the table is fresh, the condition in hand is dropped, no process is current"; what no process fills stays as it is
+abbrev pub afterRestart : Target → Target
+afterRestart t = record {
+  base = t .base;
+  size = t .size;
+  count = t .count;
+  selected = 0;
+  current = 0;
+  table = freshTable;
+  processes = map restarted (take (t .count) (t .processes)) ++ drop (t .count) (t .processes);
+}
+
+-- "every trap's plain bytes go back"
 unfoldable pub restart : World → Outcome
-restart w =
-    let t = w .target in
-    replied (Rerr Reset)
-    (world
-    (record {
-      base = t .base;
-      size = t .size;
-      count = t .count;
-      selected = 0;
-      current = 0;
-      table = freshTable;
-      processes = map restarted (take (t .count) (t .processes)) ++ drop (t .count) (t .processes);
-    })
-    (plainMemory w) (w .regs))
+restart w = replied (Rerr Reset) (world (afterRestart (w .target)) (plainMemory w) (w .regs))

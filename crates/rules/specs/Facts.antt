@@ -6,6 +6,7 @@ use mathlib.Core.List.{List}
 use lib.ListN.{length, getD}
 use Rattle.condition.specs.Depth.{wellFormed}
 use Rattle.fit.specs.Fit.{fitOf, processAt, entryAt, markFit, currentFit, draftFit}
+use Rattle.memory.specs.Head.{Head}
 use Rattle.target.specs.Free.{isFree}
 use Rattle.target.specs.declared.Entry.{Entry}
 use Rattle.target.specs.declared.Target.{Target}
@@ -29,18 +30,18 @@ pub record Shaped (t : Target) : Type 0 where
 abbrev pub Used : Target → ℕ → Type 0
 Used t k = (k < 8) × (isFree (entryAt (t .table .entries) k) ≡ false)
 
-pub record UsedFacts (t : Target) (mem : List ℕ) (e : Entry) : Type 0 where
+pub record UsedFacts (h : Head) (t : Target) (mem : List ℕ) (e : Entry) : Type 0 where
   pub one : e .used ≡ 1
   pub even : e .site % 2 ≡ 0
   pub low : t .base ≤ e .site
   pub high : e .site - t .base + 2 ≤ length mem
-  pub trap0 : getD mem (e .site - t .base) 0 ≡ 0x02
-  pub trap1 : getD mem (e .site - t .base + 1) 0 ≡ 0x90
+  pub trap0 : getD mem (e .site - t .base) 0 ≡ h .first
+  pub trap1 : getD mem (e .site - t .base + 1) 0 ≡ h .second
   pub formed : wellFormed (e .elements) (e .count) ≡ true
 
 -- ---- the record
 
-pub record Facts (t : Target) (mem : List ℕ) : Type 0 where
+pub record Facts (h : Head) (t : Target) (mem : List ℕ) : Type 0 where
   pub sizeFour : t .size % 4 ≡ 0
   pub sizeLow : 4 ≤ t .size
   pub sizeHigh : t .size ≤ 65536
@@ -52,7 +53,7 @@ pub record Facts (t : Target) (mem : List ℕ) : Type 0 where
   pub pids : (i : ℕ) → i < t .count → 0 < processAt (t .processes) i .pid
   pub pidsDiffer : (i j : ℕ) → i < t .count → j < t .count
       → processAt (t .processes) i .pid ≡ processAt (t .processes) j .pid → i ≡ j
-  pub used : (k : ℕ) → Used t k → UsedFacts t mem (entryAt (t .table .entries) k)
+  pub used : (k : ℕ) → Used t k → UsedFacts h t mem (entryAt (t .table .entries) k)
   pub idsDiffer : (j k : ℕ) → Used t j → Used t k
       → entryAt (t .table .entries) j .id ≡ entryAt (t .table .entries) k .id → j ≡ k
   pub sitesDiffer : (j k : ℕ) → Used t j → Used t k
@@ -62,7 +63,7 @@ pub record Facts (t : Target) (mem : List ℕ) : Type 0 where
   pub draft : draftFit (t .table .draft) (t .table .entries) ≡ true
 
 -- a record that the steps keep: shaped, fit, and with its memory
-pub record Good (t : Target) (mem : List ℕ) : Type 0 where
+pub record Good (h : Head) (t : Target) (mem : List ℕ) : Type 0 where
   pub shaped : Shaped t
-  pub fit : fitOf t mem ≡ true
+  pub fit : fitOf h t mem ≡ true
   pub sized : length mem ≡ t .size

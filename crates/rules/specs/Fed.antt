@@ -6,6 +6,7 @@ use Prim.Native.Nat.{ℕ, _<_}
 use borrow.Author.Tests.{ltb-true}
 use lib.Dec.{ltb, eqb}
 use Rattle.fit.specs.Fit.{processAt, fitOf}
+use Rattle.memory.specs.Head.{Head}
 use Rattle.target.specs.declared.Process.{Process}
 use Rattle.wire.specs.Message.{typeOf, bytesOf}
 use Rattle.wire.specs.declared.Message.{Message}
@@ -24,11 +25,11 @@ use Rattle.rules.specs.Agree.{Follows}
 
 module _ (P : Outcome → Type 0) (w : World) where
   -- the numbers 2 and 3, or the step
-  pub on-checked : (rest : Bool) (reply : List ℕ) (step : Outcome) → P (refused 2 w reply) → P (refused 3 w reply) → P step
-      → P (checked w rest reply step)
+  pub on-checked : (head : Head) (rest : Bool) (reply : List ℕ) (step : Outcome) → P (refused 2 w reply) → P (refused 3 w reply) → P step
+      → P (checked head w rest reply step)
   unfolding checked
-  on-checked rest reply step two three act =
-      choose P (sized w && rest) (λ e. choose P (fitOf (w .target) (w .mem)) (λ f. act) (λ f. three)) (λ e. two)
+  on-checked head rest reply step two three act =
+      choose P (sized w && rest) (λ e. choose P (fitOf head (w .target) (w .mem)) (λ f. act) (λ f. three)) (λ e. two)
 
   -- no current process, one that is not Stopped, or its block
   pub on-block : (serve : ℕ → Outcome) → ((r : Reason) → P (error r w)) → ((i : ℕ) → P (serve i)) → P (onBlock w serve)

@@ -12,12 +12,12 @@ use Rattle.common.proofs.Every.{every-at, every-all}
 use Rattle.common.proofs.Same.{and-both}
 use Rattle.fit.specs.Fit.{fitOf, windowFit, processAt, pidFit, processesFit, entryAt, apart, siteFit, entryFit, slotFit, entriesFit}
 use Rattle.fit.specs.Fit.{marksFit, currentFit, draftFit}
-use Rattle.memory.specs.Overlay.{trap, noSite, siteOver, slotOf, covered}
+use Rattle.memory.specs.Head.{Head, trapBytes}
+use Rattle.memory.specs.Overlay.{noSite, siteOver, slotOf, covered}
 use Rattle.common.proofs.Cases.{on-test, on-same}
-use Rattle.memory.proofs.Site.{site-place, site-not-one}
+use Rattle.memory.proofs.Site.{site-place, no-site-free}
 use Rattle.memory.proofs.Slots.{slot-below, slot-site}
-use Rattle.memory_laws.specs.Planted.{Planted}
-use Rattle.memory_laws.specs.Bytes.{planted-by}
+use Rattle.memory_laws.specs.Planted.{Planted, planted-by}
 use Rattle.target.specs.Free.{isFree}
 use Rattle.target.specs.declared.Entry.{Entry}
 use Rattle.target.specs.declared.Process.{Process}
@@ -49,17 +49,17 @@ differ P key apart i j p q e =
 
 -- ---- the six tests of a record
 
-pub record Tests (t : Target) (mem : List ℕ) : Type 0 where
+pub record Tests (head : Head) (t : Target) (mem : List ℕ) : Type 0 where
   pub window : windowFit (t .base) (t .size) ≡ true
   pub processes : processesFit (t .processes) (t .count) ≡ true
-  pub entries : entriesFit (t .base) mem (t .table .entries) ≡ true
+  pub entries : entriesFit head (t .base) mem (t .table .entries) ≡ true
   pub marks : marksFit (t .processes) (t .count) ≡ true
   pub current : currentFit (t .selected) (t .current) (t .processes) (t .count) ≡ true
   pub draft : draftFit (t .table .draft) (t .table .entries) ≡ true
 
-module _ (t : Target) (mem : List ℕ) where
+module _ {head : Head} (t : Target) (mem : List ℕ) where
   -- a fit record passes each
-  pub tests-of : fitOf t mem ≡ true → Tests t mem
+  pub tests-of : fitOf head t mem ≡ true → Tests head t mem
   unfolding fitOf
   tests-of e = record {
     window = search (and-left, and-right) depth 7;
@@ -71,7 +71,7 @@ module _ (t : Target) (mem : List ℕ) where
   }
 
   -- one that passes each is fit
-  pub fit-by : Tests t mem → fitOf t mem ≡ true
+  pub fit-by : Tests head t mem → fitOf head t mem ≡ true
   unfolding fitOf
   fit-by c = rw (c .window, c .processes, c .entries, c .marks, c .current, c .draft)
 
@@ -124,9 +124,9 @@ apart-by e f h =
     (λ p. on-test (isFree f) (λ q. rw (p, q))
     (λ q. rw (p, q, ne-eqb (e .id) (f .id) (h p q .0), ne-eqb (e .site) (f .site) (h p q .1))))
 
-module _ (t : Target) (mem : List ℕ) where
+module _ (head : Head) (t : Target) (mem : List ℕ) where
   -- a used entry that is fit
-  used-fit : (e : Entry) → isFree e ≡ false → entryFit (t .base) mem e ≡ true → UsedFacts t mem e
+  used-fit : (e : Entry) → isFree e ≡ false → entryFit head (t .base) mem e ≡ true → UsedFacts head t mem e
   unfolding entryFit siteFit
   used-fit e u h =
       let f = rw u at h in
@@ -141,7 +141,7 @@ module _ (t : Target) (mem : List ℕ) where
       }
 
   -- an entry that holds what it is to where it is used is fit
-  fit-used : (e : Entry) → (isFree e ≡ false → UsedFacts t mem e) → entryFit (t .base) mem e ≡ true
+  fit-used : (e : Entry) → (isFree e ≡ false → UsedFacts head t mem e) → entryFit head (t .base) mem e ≡ true
   unfolding entryFit siteFit
   fit-used e h =
       on-test (isFree e) (λ p. rw p)
@@ -158,14 +158,14 @@ module _ (t : Target) (mem : List ℕ) where
         f .formed,
       ))
 
-  module _ (h : entriesFit (t .base) mem (t .table .entries) ≡ true) where
+  module _ (h : entriesFit head (t .base) mem (t .table .entries) ≡ true) where
     -- each slot is fit
-    each-slot : (k : ℕ) → k < 8 → slotFit (t .base) mem (t .table .entries) k ≡ true
+    each-slot : (k : ℕ) → k < 8 → slotFit head (t .base) mem (t .table .entries) k ≡ true
     unfolding entriesFit
     each-slot k l = every-at 8 _ h k l
 
     -- a used one holds what it is to
-    pub used-of : (k : ℕ) → Used t k → UsedFacts t mem (entryAt (t .table .entries) k)
+    pub used-of : (k : ℕ) → Used t k → UsedFacts head t mem (entryAt (t .table .entries) k)
     unfolding slotFit
     used-of k u = let f = each-slot k (u .0) in used-fit (entryAt (t .table .entries) k) (u .1) (search parts)
 
@@ -187,7 +187,7 @@ module _ (t : Target) (mem : List ℕ) where
         (λ j k l u v. apart-differ _ _ (slots-apart j k l (v .0)) (u .1) (v .1) .1)
 
   -- the tests give the facts
-  pub facts-by : Tests t mem → Facts t mem
+  pub facts-by : Tests head t mem → Facts head t mem
   unfolding windowFit processesFit marksFit
   facts-by c =
       let w = c .window in
@@ -212,10 +212,10 @@ module _ (t : Target) (mem : List ℕ) where
       }
 
   -- used entries that hold what they are to, and differ, are fit
-  pub entries-fit : ((k : ℕ) → Used t k → UsedFacts t mem (entryAt (t .table .entries) k))
+  pub entries-fit : ((k : ℕ) → Used t k → UsedFacts head t mem (entryAt (t .table .entries) k))
       → ((j k : ℕ) → Used t j → Used t k → entryAt (t .table .entries) j .id ≡ entryAt (t .table .entries) k .id → j ≡ k)
       → ((j k : ℕ) → Used t j → Used t k → entryAt (t .table .entries) j .site ≡ entryAt (t .table .entries) k .site → j ≡ k)
-      → entriesFit (t .base) mem (t .table .entries) ≡ true
+      → entriesFit head (t .base) mem (t .table .entries) ≡ true
   unfolding entriesFit slotFit
   entries-fit used ids sites = every-all 8 _ (λ k l. rw (
     fit-used (entryAt (t .table .entries) k) (λ u. used k (l, u)),
@@ -225,7 +225,7 @@ module _ (t : Target) (mem : List ℕ) where
   ))
 
   -- and the facts the tests
-  pub tests-by : Facts t mem → Tests t mem
+  pub tests-by : Facts head t mem → Tests head t mem
   unfolding windowFit processesFit marksFit
   tests-by f = record {
     window = rw (
@@ -251,15 +251,15 @@ module _ (t : Target) (mem : List ℕ) where
 
 -- ---- a fit record is one of which the facts hold
 
-pub facts-of : (t : Target) (mem : List ℕ) → Good t mem → Facts t mem
-facts-of t mem g = facts-by t mem (tests-of t mem (g .fit))
+pub facts-of : {head : Head} (t : Target) (mem : List ℕ) → Good head t mem → Facts head t mem
+facts-of {head} t mem g = facts-by head t mem (tests-of t mem (g .fit))
 
-pub fit-of : (t : Target) (mem : List ℕ) → Facts t mem → fitOf t mem ≡ true
-fit-of t mem f = fit-by t mem (tests-by t mem f)
+pub fit-of : {head : Head} (t : Target) (mem : List ℕ) → Facts head t mem → fitOf head t mem ≡ true
+fit-of {head} t mem f = fit-by t mem (tests-by head t mem f)
 
 -- ---- the slots of a good record
 
-module _ (t : Target) (mem : List ℕ) (g : Good t mem) where
+module _ {head : Head} (t : Target) (mem : List ℕ) (g : Good head t mem) where
   pub eight-sites : length (sites t) ≡ 8
   eight-sites = length-sites (t .base) (t .table .entries) ∙ g .shaped .entries
 
@@ -306,21 +306,22 @@ module _ (t : Target) (mem : List ℕ) (g : Good t mem) where
   slot-byte k r h l = plain-byte (t .table .entries) two-each k r (omega (arith, g .shaped .entries)) l
 
   -- real memory holds the trap at every site
-  pub planted-of : Planted trap (sites t) mem
-  planted-of = planted-by trap (sites t) mem byte
+  pub planted-of : Planted (trapBytes head) (sites t) mem
+  planted-of = planted-by (trapBytes head) (sites t) mem byte
     where
-      half : (i s : ℕ) → s + i % 2 ≡ i → getD mem s 0 ≡ 0x02 → getD mem (s + 1) 0 ≡ 0x90 → getD mem i 0 ≡ getD trap (i % 2) 0
+      half : (i s : ℕ) → s + i % 2 ≡ i → getD mem s 0 ≡ head .first → getD mem (s + 1) 0 ≡ head .second
+          → getD mem i 0 ≡ getD (trapBytes head) (i % 2) 0
       half i s p a b = on-same (i % 2) 0
           (λ z. rw z (ap (λ (n : ℕ). getD mem n 0) (omega arith) ∙ a))
           (λ n. let o : i % 2 ≡ 1 = omega arith in rw o (ap (λ (n : ℕ). getD mem n 0) (omega arith) ∙ b))
 
-      byte : (i : ℕ) → i < length mem → covered 2 (sites t) i ≡ true → getD mem i 0 ≡ getD trap (i % 2) 0
+      byte : (i : ℕ) → i < length mem → covered 2 (sites t) i ≡ true → getD mem i 0 ≡ getD (trapBytes head) (i % 2) 0
       byte i h e =
           let j = slotOf 2 (sites t) i in
           let l : j < 8 = omega (arith, slot-below 2 (sites t) i e, eight-sites) in
           let s = slot-site 2 (sites t) i e in
           on-test (isFree (entryAt (t .table .entries) j))
-          (λ v. absurd (site-not-one 2 (omega arith) i (sym s ∙ slot-free j l v)))
+          (λ v. absurd (no-site-free 2 (omega arith) i (sym s ∙ slot-free j l v)))
           (λ v.
           let f = facts-of t mem g .used j (l, v) in
           half i (entryAt (t .table .entries) j .site - t .base) (omega (arith, site-place 2 i, slot-used j (l, v)))

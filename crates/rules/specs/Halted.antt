@@ -16,6 +16,7 @@ use Rattle.common.proofs.First.{first-holds}
 use Rattle.common.proofs.Tab.{length-tab, tab-at}
 use Rattle.fit.specs.Fit.{processAt, processOf}
 use Rattle.common.proofs.Cases.{on-test, on-same}
+use Rattle.memory.specs.Head.{Head}
 use Rattle.target.specs.Fresh.{noProcess}
 use Rattle.target.specs.declared.Process.{Process}
 use Rattle.target.specs.declared.Target.{Target}
@@ -43,7 +44,7 @@ found-pid ps n pid fits below =
     sym (ap (λ (p : Process). p .pid) q)
     ∙ eqb-true _ _ (first-holds (λ p. eqb (p .pid) pid) (take n ps) noProcess (omega (arith, length-take-le n ps fits)))
 
-module _ (t : Target) (mem : List ℕ) (good : Good t mem) where
+module _ {head : Head} (t : Target) (mem : List ℕ) (good : Good head t mem) where
   -- the listed ones are among the four
   fits : t .count ≤ length (t .processes)
   fits = omega (arith, facts-of t mem good .few, good .shaped .processes)

@@ -9,6 +9,7 @@ use lib.Dec.{ltb, eqb}
 use lib.ListN.{length, getD, replicate}
 use Rattle.common.specs.First.{firstOf}
 use Rattle.common.specs.Same.{sameList}
+use Rattle.memory.specs.Head.{house}
 use Rattle.target.specs.Free.{isFree}
 use Rattle.target.specs.declared.Target.{Target}
 use Rattle.wire.specs.Message.{bytesOf}
@@ -25,10 +26,10 @@ use Rattle.rules.specs.Worked.{Call, ask, look, reply, after, writing}
 -- "one answering Rerr to all", whatever the reason; the other steps as the rules have them
 unfoldable pub refusing : Reason → Target → List ℕ → Step → Outcome
 refusing r t mem (request regs bytes reply) = error r (world t mem regs)
-refusing r t mem (trapEvent regs pid block) = stepOf t mem (trapEvent regs pid block)
-refusing r t mem (scheduleEvent regs pid block) = stepOf t mem (scheduleEvent regs pid block)
-refusing r t mem (stateEvent regs pid value) = stepOf t mem (stateEvent regs pid value)
-refusing r t mem (restartStep regs reply) = stepOf t mem (restartStep regs reply)
+refusing r t mem (trapEvent regs pid block) = stepOf house t mem (trapEvent regs pid block)
+refusing r t mem (scheduleEvent regs pid block) = stepOf house t mem (scheduleEvent regs pid block)
+refusing r t mem (stateEvent regs pid value) = stepOf house t mem (stateEvent regs pid value)
+refusing r t mem (restartStep regs reply) = stepOf house t mem (restartStep regs reply)
 
 -- "one answering zeros always"
 unfoldable pub zeros : Target → List ℕ → Step → Outcome
@@ -41,12 +42,12 @@ zeros t mem (restartStep regs reply) = outcome 0 Nothing (world t mem regs) (rep
 -- the rules, but that an accepted request whose bytes and reply meet a test leaves another world than theirs
 unfoldable pub instead : (List ℕ → List ℕ → Bool) → (World → World) → Target → List ℕ → Step → Outcome
 instead meets change t mem (request regs bytes reply) =
-    let o = stepOf t mem (request regs bytes reply) in
+    let o = stepOf house t mem (request regs bytes reply) in
     cond (eqb (o .number) 0 && meets bytes (o .reply)) (outcome 0 Nothing (change (world t mem regs)) (o .reply)) o
-instead meets change t mem (trapEvent regs pid block) = stepOf t mem (trapEvent regs pid block)
-instead meets change t mem (scheduleEvent regs pid block) = stepOf t mem (scheduleEvent regs pid block)
-instead meets change t mem (stateEvent regs pid value) = stepOf t mem (stateEvent regs pid value)
-instead meets change t mem (restartStep regs reply) = stepOf t mem (restartStep regs reply)
+instead meets change t mem (trapEvent regs pid block) = stepOf house t mem (trapEvent regs pid block)
+instead meets change t mem (scheduleEvent regs pid block) = stepOf house t mem (scheduleEvent regs pid block)
+instead meets change t mem (stateEvent regs pid value) = stepOf house t mem (stateEvent regs pid value)
+instead meets change t mem (restartStep regs reply) = stepOf house t mem (restartStep regs reply)
 
 -- "one that accepts Tmput and stores nothing"
 unfoldable pub forgetting : Target → List ℕ → Step → Outcome
@@ -95,7 +96,7 @@ differences r =
 -- each shows what its row says, the rules show the other, and the two are not the same
 pub idle : (r : Reason)
     → (map (λ x. lastOf (x .stub) (x .calls)) (differences r) ≡ map (λ x. x .idle) (differences r))
-    × (map (λ x. lastOf stepOf (x .calls)) (differences r) ≡ map (λ x. x .rules) (differences r))
+    × (map (λ x. lastOf (stepOf house) (x .calls)) (differences r) ≡ map (λ x. x .rules) (differences r))
     × (map (λ x. sameList (x .idle) (x .rules)) (differences r) ≡ replicate 4 false)
 unfolding differences lastOf after refusing zeros forgetting pretending instead
 idle r = (refl, refl, refl)

@@ -5,6 +5,7 @@ use Prim.Native.Nat.{ℕ}
 use lib.ListN.{take, drop, replicate}
 use Rattle.common.specs.Bytes.{highFirst}
 use Rattle.common.specs.Tab.{tab}
+use Rattle.memory.specs.Head.{house}
 use Rattle.target.specs.declared.Target.{Target}
 use Rattle.rules.specs.Step.{Step, request, restartStep, stepOf}
 use Rattle.rules.specs.Book.{Book, Setup, setupBy, opened, withPlain, withDraft, withBreakpoints, withStopped, without}
@@ -25,7 +26,7 @@ pub record Stage : Type 0 where
 unfoldable pub passed : Setup → Stage → List Step → Stage
 passed s g [] = g
 passed s g (e ∷ es) =
-    let o = stepOf (g .target) (g .mem) e in
+    let o = stepOf house (g .target) (g .mem) e in
     passed s (record { book = fed s (g .book) e (o .number) (o .answer) (o .reply); target = o .after .target; mem = o .after .mem }) es
 
 -- ---- "B = 4,096, M = 64, byte at B + i is i. Processes 5 (0x80001000) and 7 (0x80002000)", "a register area of zeros"
@@ -79,5 +80,5 @@ unfolding after passed setupBy opened fed isAccepted bookRequest bookServed book
 computed = record { real = refl; plain = refl; end = refl }
 
 -- and what is claimed of it
-pub not-empty : Claim setup (opened setup) (setupBy setup .after .target) (setup .mem) (map step whole)
-not-empty = demand3 setup accepted (map step whole)
+pub not-empty : Claim house setup (opened setup) (setupBy setup .after .target) (setup .mem) (map step whole)
+not-empty = demand3 house setup accepted (map step whole)

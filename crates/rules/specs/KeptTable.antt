@@ -8,10 +8,11 @@ use lib.ListN.{length, set, length-set, length-take, length-drop, getD-replicate
 use Rattle.common.proofs.Same.{true-or-false}
 use Rattle.fit.specs.Arrays.{siteOf, sitesOf}
 use Rattle.fit.specs.Fit.{entryAt, draftFit}
-use Rattle.memory.specs.Overlay.{trap, noSite, laidOver}
+use Rattle.memory.specs.Head.{Head, trapBytes}
+use Rattle.memory.specs.Overlay.{noSite, laidOver}
 use Rattle.memory.specs.Write.{memAfter, plainAfter}
-use Rattle.memory.proofs.Slots.{no-site-free}
-use Rattle.memory_laws.specs.Bytes.{length-laid, length-mem-after, length-plain-after}
+use Rattle.memory.proofs.Site.{no-site-free}
+use Rattle.memory.proofs.Bytes.{length-laid, length-mem-after, length-plain-after}
 use Rattle.memory_laws.specs.Laws.{planted-written, no-traps-planted}
 use Rattle.memory_laws.specs.Planting.{planted-more, removed-planted}
 use Rattle.target.specs.Free.{isFree}
@@ -35,32 +36,33 @@ fresh-shaped = record { plain = refl; elements = refl; id = omega arith }
 
 -- ---- a fresh table, over any memory
 
-pub fresh-parts : (base n : ℕ) (mem : List ℕ) → length mem ≡ n → TableParts base n freshTable mem
-fresh-parts base n mem size = record {
+pub fresh-parts : {head : Head} (base n : ℕ) (mem : List ℕ) → length mem ≡ n → TableParts head base n freshTable mem
+fresh-parts {head} base n mem size = record {
   eight = refl;
   entry = λ k h. rw (getD-replicate 8 k freshEntry noEntry h) fresh-shaped;
   draftElements = refl;
   draftId = omega arith;
   draft = closed-fit (freshTable .entries);
   rows = rows-fresh base n;
-  planted = no-traps-planted trap (sitesOf base (freshTable .entries)) mem
+  planted = no-traps-planted (trapBytes head) (sitesOf base (freshTable .entries)) mem
       (λ j h i q.
       let l : j < 8 = omega (arith, length-sites base (freshTable .entries)) in
       no-site-free 2 (omega arith) i (q ∙ site-at base (freshTable .entries) j l ∙ site-free base _ (fresh-free j l)));
   sized = size;
 }
 
-module _ (t : Target) (mem : List ℕ) (g : Good t mem) where
+module _ {head : Head} (t : Target) (mem : List ℕ) (g : Good head t mem) where
   abbrev es : List Entry
   es = t .table .entries
 
   -- the parts of the table as it was
-  old : TableParts (t .base) (t .size) (t .table) mem
+  old : TableParts head (t .base) (t .size) (t .table) mem
   old = parts-of t mem g .table
 
   -- ---- the condition in hand
 
-  pub good-draft : (d : Draft) → length (d .elements) ≡ 16 → d .id < 256 → draftFit d (t .table .entries) ≡ true → Good (withDraft t d) mem
+  pub good-draft : (d : Draft) → length (d .elements) ≡ 16 → d .id < 256 → draftFit d (t .table .entries) ≡ true
+      → Good head (withDraft t d) mem
   unfolding withDraft
   good-draft d l i e = good-table t mem g _ mem (record {
     eight = old .eight;
@@ -84,8 +86,8 @@ module _ (t : Target) (mem : List ℕ) (g : Good t mem) where
       → Row (t .base) (t .size) e
       → ((j : ℕ) → Used t j → entryAt (t .table .entries) j .id ≡ e .id → ⊥)
       → ((j : ℕ) → Used t j → entryAt (t .table .entries) j .site ≡ e .site → ⊥)
-      → Good (withTable t (record { entries = set (t .table .entries) k e; draft = closedDraft }))
-      (laidOver trap ((e .site - t .base) ∷ []) mem)
+      → Good head (withTable t (record { entries = set (t .table .entries) k e; draft = closedDraft }))
+      (laidOver (trapBytes head) ((e .site - t .base) ∷ []) mem)
   good-made k e h free shape used row id site = good-table t mem g _ _ (record {
     eight = length-set es k e ∙ old .eight;
     entry = stored k e h shape;
@@ -95,14 +97,14 @@ module _ (t : Target) (mem : List ℕ) (g : Good t mem) where
     rows = rows-set es (old .eight) k e h (t .base) (t .size) (old .rows)
         (λ u. row) (λ u j v n. id j v) (λ u j v n. site j v);
     planted = rw (sites-set (t .base) es k e, site-used (t .base) e used)
-        (planted-more trap (sites t) mem k (e .site - t .base)
+        (planted-more (trapBytes head) (sites t) mem k (e .site - t .base)
         (λ i q. no-site-free 2 (omega arith) i (q ∙ slot-free t mem g k h free)) (old .planted));
-    sized = length-laid trap _ mem ∙ old .sized;
+    sized = length-laid (trapBytes head) _ mem ∙ old .sized;
   })
 
   -- a breakpoint is removed, its plain bytes put back
   pub good-freed : (k : ℕ) → Used t k
-      → Good (withEntries t (set (t .table .entries) k freshEntry))
+      → Good head (withEntries t (set (t .table .entries) k freshEntry))
       (laidOver (entryAt (t .table .entries) k .plain) ((entryAt (t .table .entries) k .site - t .base) ∷ []) mem)
   unfolding withEntries siteOf isFree
   good-freed k (h, u) = good-table t mem g _ _ (record {
@@ -116,14 +118,14 @@ module _ (t : Target) (mem : List ℕ) (g : Good t mem) where
     planted = rw (sites-set (t .base) es k freshEntry) (rw (slot-used t mem g k (h, u)) at
         (removed-planted 2 (sites t) mem (entryAt es k .plain) k noSite (old .entry k h .plain) (omega (arith, eight-sites t mem g))
         (λ j l. slot-only t mem g j k (omega (arith, eight-sites t mem g)) (h, u)) (no-site-free 2 (omega arith))
-        trap refl (old .planted)));
+        (trapBytes head) refl (old .planted)));
     sized = length-laid (entryAt es k .plain) _ mem ∙ old .sized;
   })
 
   -- ---- bytes written to the window
 
   pub good-written : (at : ℕ) (bytes : List ℕ)
-      → Good (withEntries t (withPlains (t .table .entries) (plainAfter 2 (sites t) (plains t) at bytes)))
+      → Good head (withEntries t (withPlains (t .table .entries) (plainAfter 2 (sites t) (plains t) at bytes)))
       (memAfter 2 (sites t) mem at bytes)
   unfolding withEntries
   good-written at bytes = good-table t mem g _ _ (record {
@@ -138,6 +140,6 @@ module _ (t : Target) (mem : List ℕ) (g : Good t mem) where
     draftId = old .draftId;
     draft = with-fit es (old .eight) (t .table .draft) (old .draft) _;
     rows = rows-with es (old .eight) _ (t .base) (t .size) (old .rows);
-    planted = rw (sites-with (t .base) es) (planted-written trap (sites t) mem at bytes (old .planted));
+    planted = rw (sites-with (t .base) es) (planted-written (trapBytes head) (sites t) mem at bytes (old .planted));
     sized = length-mem-after 2 (sites t) mem at bytes ∙ old .sized;
   })

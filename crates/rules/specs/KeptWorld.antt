@@ -12,6 +12,7 @@ use Rattle.condition.specs.Depth.{wellFormed}
 use Rattle.condition.specs.Add.{roomFor, withElement}
 use Rattle.condition.specs.declared.Room.the-variants.{Fits}
 use Rattle.fit.specs.Fit.{stopped, entryAt, entryOf, markFit}
+use Rattle.memory.specs.Head.{Head}
 use Rattle.target.specs.Free.{isFree, firstFree}
 use Rattle.target.specs.declared.Element.{Element}
 use Rattle.rules.specs.Outcome.{World}
@@ -28,8 +29,8 @@ use Rattle.rules.specs.KeptDraft.{closed-fit, hand-of, begun-fit, joined
 use Rattle.rules.specs.KeptTable.{good-draft, good-made, good-freed, good-written}
 
 -- the record is good with its memory
-abbrev pub GoodWorld : World → Type 0
-GoodWorld w = Good (w .target) (w .mem)
+abbrev pub GoodWorld : Head → World → Type 0
+GoodWorld head w = Good head (w .target) (w .mem)
 
 -- what holds of both branches of a test holds of the one that is taken
 pub choose : {A : Type 0} (P : A → Type 0) (c : Bool) {a b : A} → (c ≡ true → P a) → (c ≡ false → P b) → P (cond c a b)
@@ -41,11 +42,11 @@ pub neither : (a b : Bool) → (a || b) ≡ false → (a ≡ false) × (b ≡ fa
 neither true b e = true-or-false (sym e)
 neither false b e = (refl, e)
 
-module _ (w : World) (g : GoodWorld w) where
+module _ {head : Head} (w : World) (g : GoodWorld head w) where
   -- ---- the condition in hand
 
   -- it is dropped
-  pub good-dropped : GoodWorld (dropped w)
+  pub good-dropped : GoodWorld head (dropped w)
   unfolding dropped
   good-dropped = good-draft (w .target) (w .mem) g _ refl (omega arith) (closed-fit _)
 
@@ -53,7 +54,7 @@ module _ (w : World) (g : GoodWorld w) where
   pub good-begun : (val : ℕ) → ltb 255 val ≡ false
       → ltb (entryOf (w .target .table .entries) val) (length (w .target .table .entries)) ≡ false
       → leb (length (w .target .table .entries)) (firstFree (w .target .table .entries)) ≡ false
-      → Good (withDraft (w .target) (begun val)) (w .mem)
+      → Good head (withDraft (w .target) (begun val)) (w .mem)
   unfolding begun
   good-begun val small new room =
       good-draft (w .target) (w .mem) g (begun val) refl (omega (arith, ltb-false 255 val small))
@@ -61,7 +62,7 @@ module _ (w : World) (g : GoodWorld w) where
 
   -- an element that fits joins it
   pub good-joined : (e : Element) → inHand w ≡ true → roomFor (w .target .table .draft) e ≡ Fits
-      → Good (withDraft (w .target) (withElement (w .target .table .draft) e)) (w .mem)
+      → Good head (withDraft (w .target) (withElement (w .target .table .draft) e)) (w .mem)
   unfolding inHand withElement
   good-joined e hand room =
       let d = w .target .table .draft in
@@ -73,13 +74,13 @@ module _ (w : World) (g : GoodWorld w) where
   -- ---- processes
 
   -- the state and the mark of one are set
-  pub good-state : (i s m : ℕ) → i < w .target .count → markFit s m ≡ true → Good (setState (w .target) i s m) (w .mem)
+  pub good-state : (i s m : ℕ) → i < w .target .count → markFit s m ≡ true → Good head (setState (w .target) i s m) (w .mem)
   unfolding setState
   good-state i s m h e =
       good-processes (w .target) (w .mem) g _ (state-parts _ _ _ _ (parts-of (w .target) (w .mem) g .processes) i s m h e)
 
   -- one is Stopped, and its mark cleared
-  pub good-stopped : (i : ℕ) (block : List ℕ) → i < w .target .count → GoodWorld (stopWith w i block)
+  pub good-stopped : (i : ℕ) (block : List ℕ) → i < w .target .count → GoodWorld head (stopWith w i block)
   unfolding stopWith
   good-stopped i block h = good-state i stopped 0 h (mark-none stopped)
 
@@ -87,21 +88,21 @@ module _ (w : World) (g : GoodWorld w) where
 
   -- a breakpoint is removed
   pub good-removed : (k : ℕ) → k < length (w .target .table .entries) → isFree (entryAt (w .target .table .entries) k) ≡ false
-      → GoodWorld (removed w k)
+      → GoodWorld head (removed w k)
   unfolding removed
   good-removed k h u = good-freed (w .target) (w .mem) g k (omega (arith, g .shaped .entries), u)
 
   -- the one at an address is, where there is one
-  pub good-removed-at : (address : ℕ) → GoodWorld (removedAt w address)
+  pub good-removed-at : (address : ℕ) → GoodWorld head (removedAt w address)
   unfolding removedAt
   good-removed-at address =
       let es = w .target .table .entries in
-      choose GoodWorld (ltb (breakpointAt es address) (length es))
+      choose (GoodWorld head) (ltb (breakpointAt es address) (length es))
       (λ e. let h = ltb-true _ _ e in good-removed (breakpointAt es address) h (at-used es address h)) (λ e. g)
 
   -- one is made
   pub good-planted : (site : ℕ) → inHand w ≡ true → siteFree w site ≡ true
-      → wellFormed (w .target .table .draft .elements) (w .target .table .draft .count) ≡ true → GoodWorld (planted w site)
+      → wellFormed (w .target .table .draft .elements) (w .target .table .draft .count) ≡ true → GoodWorld head (planted head w site)
   unfolding planted inHand siteFree madeEntry isFree entryOf
   good-planted site hand free formed =
       let es = w .target .table .entries in
@@ -118,6 +119,6 @@ module _ (w : World) (g : GoodWorld w) where
       (λ j u e. omega (arith, at-first es site j (omega (arith, u .0)) (u .1) e, u .0))
 
   -- bytes are written to the window
-  pub good-window : (addr : ℕ) (bytes : List ℕ) → GoodWorld (windowWritten w addr bytes)
+  pub good-window : (addr : ℕ) (bytes : List ℕ) → GoodWorld head (windowWritten w addr bytes)
   unfolding windowWritten
   good-window addr bytes = good-written (w .target) (w .mem) g (addr - w .target .base) bytes

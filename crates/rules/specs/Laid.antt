@@ -5,16 +5,18 @@ use mathlib.Core.List.{List, [], _∷_}
 use Prim.Native.Nat.{ℕ, zero, suc, _+_, _-_, _*_, _<_}
 use native.Mathlib.Nat.{add-zero}
 use native.Mathlib.Omega.{arith}
-use lib.ListN.{length, getD, set, replicate, length-set, getD-replicate}
+use lib.ListN.{length, getD, set, replicate, length-set}
 use Rattle.fit.specs.Arrays.{siteOf, sitesOf, plainsOf}
 use Rattle.fit.specs.Fit.{entryAt}
-use Rattle.memory.specs.Overlay.{trap, noSite, covered, plainAt, plainOf, laidOver}
+use Rattle.memory.specs.Head.{Head, trapBytes}
+use Rattle.memory.specs.Overlay.{noSite, siteOver, slotOf, covered, plainAt, plainOf, laidOver}
 use Rattle.memory.specs.Place.{placeOf}
 use Rattle.memory.specs.Write.{overwritten, memAfter, plainAfter}
 use Rattle.common.proofs.Cases.{on-test, on-same}
-use Rattle.memory.proofs.Slots.{no-site-free, covered-slot, covered-by}
-use Rattle.memory_laws.specs.Bytes.{length-plain-after}
-use Rattle.memory_laws.specs.Laws.{laid-plain, laid-same, plain-written, no-traps}
+use Rattle.memory.proofs.Site.{no-site-free}
+use Rattle.memory.proofs.Slots.{slot-below, slot-site, covered-by, free-slots}
+use Rattle.memory.proofs.Bytes.{length-plain-after, no-traps}
+use Rattle.memory_laws.specs.Laws.{laid-plain, laid-same, plain-written}
 use Rattle.memory_laws.specs.Planting.{planted-plain, removed-plain}
 use Rattle.target.specs.Free.{isFree}
 use Rattle.target.specs.Fresh.{freshEntry}
@@ -37,7 +39,7 @@ same-test true b f g = sym (f refl)
 same-test false b f g = on-test b (λ e. g e ∙ sym e) (λ e. sym e)
 
 -- an offset is under a trap of the table where it is under one of the book
-pub same-covered : (s : Setup) (b : Book) (t : Target) (mem : List ℕ) → Agree s b t mem → (i : ℕ)
+pub same-covered : {head : Head} (s : Setup) (b : Book) (t : Target) (mem : List ℕ) → Agree head s b t mem → (i : ℕ)
     → covered 2 (sites t) i ≡ covered 2 (sitesBy s b) i
 unfolding sitesBy dressed
 same-covered s b t mem a i = same-test (covered 2 (sites t) i) (covered 2 (sitesBy s b) i) onto back
@@ -53,39 +55,39 @@ same-covered s b t mem a i = same-test (covered 2 (sites t) i) (covered 2 (sites
 
     onto : covered 2 (sites t) i ≡ true → covered 2 (sitesBy s b) i ≡ true
     onto e =
-        let c = covered-slot 2 (sites t) i e in
-        let k : ℕ = c .0 in
-        let below : k < 8 = omega (arith, c .1, eight-sites t mem (a .good)) in
+        let k : ℕ = slotOf 2 (sites t) i in
+        let at : getD (sites t) k 0 ≡ siteOver 2 i = slot-site 2 (sites t) i e in
+        let below : k < 8 = omega (arith, slot-below 2 (sites t) i e, eight-sites t mem (a .good)) in
         on-test (isFree (entryAt es k))
-        (λ f. absurd (no-site-free 2 (omega arith) i (sym (c .2) ∙ slot-free t mem (a .good) k below f)))
+        (λ f. absurd (no-site-free 2 (omega arith) i (sym at ∙ slot-free t mem (a .good) k below f)))
         (λ u. let m = member-place offset (b .breakpoints) _ (a .follows .breakpoints .into k (below, u)) in
-        covered-by 2 (sitesBy s b) i (m .0) (m .1) (m .2 ∙ sym (slot k (below, u)) ∙ c .2))
+        covered-by 2 (sitesBy s b) i (m .0) (m .1) (m .2 ∙ sym (slot k (below, u)) ∙ at))
 
     back : covered 2 (sitesBy s b) i ≡ true → covered 2 (sites t) i ≡ true
     back e =
-        let c = covered-slot 2 (sitesBy s b) i e in
-        let m = place-member offset (b .breakpoints) (c .0) (c .1) in
+        let m = place-member offset (b .breakpoints) (slotOf 2 (sitesBy s b) i) (slot-below 2 (sitesBy s b) i e) in
         let h = a .follows .breakpoints .from (m .0) (m .1) in
         covered-by 2 (sites t) i (h .place) (omega (arith, h .used .0, eight-sites t mem (a .good)))
-        (slot (h .place) (h .used) ∙ ap offset (h .same) ∙ sym (m .2) ∙ c .2)
+        (slot (h .place) (h .used) ∙ ap offset (h .same) ∙ sym (m .2) ∙ slot-site 2 (sitesBy s b) i e)
 
 -- real memory is plain memory with the traps of the book's breakpoints laid over it
-pub real-memory : (s : Setup) (b : Book) (t : Target) (mem : List ℕ) → Agree s b t mem → mem ≡ realBy s b
+pub real-memory : {head : Head} (s : Setup) (b : Book) (t : Target) (mem : List ℕ) → Agree head s b t mem → mem ≡ realBy head s b
 unfolding realBy
-real-memory s b t mem a =
-    sym (laid-plain trap (sites t) (plains t) mem (planted-of t mem (a .good)))
-    ∙ ap (laidOver trap (sites t)) (a .follows .plain)
-    ∙ laid-same trap (sites t) (sitesBy s b) (b .plain) (same-covered s b t mem a)
+real-memory {head} s b t mem a =
+    sym (laid-plain (trapBytes head) (sites t) (plains t) mem (planted-of t mem (a .good)))
+    ∙ ap (laidOver (trapBytes head) (sites t)) (a .follows .plain)
+    ∙ laid-same (trapBytes head) (sites t) (sitesBy s b) (b .plain) (same-covered s b t mem a)
 
 -- bytes lie where the setup says
-pub same-place : (s : Setup) (b : Book) (t : Target) (mem : List ℕ) → Agree s b t mem → (addr n : ℕ)
+pub same-place : {head : Head} (s : Setup) (b : Book) (t : Target) (mem : List ℕ) → Agree head s b t mem → (addr n : ℕ)
     → placeOf (s .base) (s .size) addr n ≡ placeOf (t .base) (t .size) addr n
 same-place s b t mem a addr n =
     sym (ap (λ (k : ℕ). placeOf k (t .size) addr n) (a .follows .base) ∙ ap (λ (k : ℕ). placeOf (s .base) k addr n) (a .follows .size))
 
 -- ---- the plain bytes of a table with one entry stored
 
-module _ (t : Target) (mem : List ℕ) (good : Good t mem) (k : ℕ) (e : Entry) (below : k < 8) (two : length (e .plain) ≡ 2) where
+module _ {head : Head} (t : Target) (mem : List ℕ) (good : Good head t mem)
+    (k : ℕ) (e : Entry) (below : k < 8) (two : length (e .plain) ≡ 2) where
   abbrev es : List Entry
   es = t .table .entries
 
@@ -115,7 +117,7 @@ module _ (t : Target) (mem : List ℕ) (good : Good t mem) (k : ℕ) (e : Entry)
 
 -- ---- plain memory stays as it was
 
-module _ (t : Target) (mem : List ℕ) (good : Good t mem) where
+module _ {head : Head} (t : Target) (mem : List ℕ) (good : Good head t mem) where
   -- a breakpoint removed: entry k, with its plain bytes put back
   pub plain-removed : (k : ℕ) → Used t k
       → plainOf 2 (sitesOf (t .base) (set (t .table .entries) k freshEntry)) (plainsOf (set (t .table .entries) k freshEntry))
@@ -138,13 +140,13 @@ module _ (t : Target) (mem : List ℕ) (good : Good t mem) where
       → e .plain
       ≡ plainAt 2 (sites t) (plains t) mem (e .site - t .base) ∷ plainAt 2 (sites t) (plains t) mem (e .site - t .base + 1) ∷ []
       → plainOf 2 (sitesOf (t .base) (set (t .table .entries) k e)) (plainsOf (set (t .table .entries) k e))
-      (laidOver trap ((e .site - t .base) ∷ []) mem)
+      (laidOver (trapBytes head) ((e .site - t .base) ∷ []) mem)
       ≡ plainOf 2 (sites t) (plains t) mem
   unfolding siteOf
   plain-planted k e below free used bytes =
       let slots : length (sites t) ≡ 8 = eight-sites t mem good in
       rw (sites-set (t .base) (t .table .entries) k e, used)
-      (planted-plain trap (sites t) mem k s
+      (planted-plain (trapBytes head) (sites t) mem k s
       (λ i q. no-site-free 2 (omega arith) i (q ∙ slot-free t mem good k below free))
       (plains t) (plainsOf (set (t .table .entries) k e)) (omega arith) (omega arith)
       (λ r h. stored-plain t mem good k e below (ap length bytes) r h ∙ ap (λ (l : List ℕ). getD l r 0) bytes ∙ byte r h)
@@ -162,7 +164,7 @@ module _ (t : Target) (mem : List ℕ) (good : Good t mem) where
 
 -- ---- a write puts its bytes into plain memory
 
-pub plain-overwritten : (t : Target) (mem : List ℕ) → Good t mem → (at : ℕ) (bytes : List ℕ)
+pub plain-overwritten : {head : Head} (t : Target) (mem : List ℕ) → Good head t mem → (at : ℕ) (bytes : List ℕ)
     → let es = withPlains (t .table .entries) (plainAfter 2 (sites t) (plains t) at bytes) in
     plainOf 2 (sitesOf (t .base) es) (plainsOf es) (memAfter 2 (sites t) mem at bytes)
     ≡ overwritten (plainOf 2 (sites t) (plains t) mem) at bytes
@@ -180,4 +182,4 @@ pub plain-fresh : (base : ℕ) (mem : List ℕ)
     → plainOf 2 (sitesOf base (replicate 8 freshEntry)) (plainsOf (replicate 8 freshEntry)) mem ≡ mem
 unfolding sitesOf siteOf isFree
 plain-fresh base mem =
-    no-traps 2 (replicate 8 noSite) (λ j h. rw (getD-replicate 8 j noSite 0 h) (no-site-free 2 (omega arith))) _ mem
+    no-traps 2 (replicate 8 noSite) _ mem (free-slots 2 (omega arith) 8)

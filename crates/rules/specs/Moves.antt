@@ -10,6 +10,7 @@ use lib.ListN.{length, set}
 use Rattle.common.specs.Keys.{among}
 use Rattle.common.proofs.Same.{true-or-false}
 use Rattle.fit.specs.Fit.{processAt, entryAt}
+use Rattle.memory.specs.Head.{Head}
 use Rattle.memory.specs.Overlay.{covered}
 use Rattle.memory.specs.Write.{overwritten}
 use Rattle.memory_laws.specs.Laws.{plain-set}
@@ -96,7 +97,7 @@ module _ (s : Setup) (b : Book) (t : Target) (mem : List ℕ) (v : Follows s b t
 
   -- ---- the table and memory
 
-  module _ (good : Good t mem) (regs : List ℕ) where
+  module _ {head : Head} (good : Good head t mem) (regs : List ℕ) where
     -- a breakpoint removed: the one for which the test holds
     pub move-removed : (f : Breakpoint → Bool) (k : ℕ) → Used t k → f (dressed (entryAt (t .table .entries) k)) ≡ true
         → ((j : ℕ) → Used t j → f (dressed (entryAt (t .table .entries) j)) ≡ true → j ≡ k)
@@ -132,7 +133,7 @@ module _ (s : Setup) (b : Book) (t : Target) (mem : List ℕ) (v : Follows s b t
     -- the condition in hand set as a breakpoint
     pub move-planted : (site : ℕ) → eqb (t .table .draft .active) 0 ≡ false
         → Follows s (withBreakpoints (withDraft b none) (sets (b .draft) site (b .breakpoints)))
-        (planted (world t mem regs) site .target) (planted (world t mem regs) site .mem)
+        (planted head (world t mem regs) site .target) (planted head (world t mem regs) site .mem)
     unfolding planted madeEntry withTable withBreakpoints withDraft sets pendingOf dressed isFree
     move-planted site e =
         let es = t .table .entries in

@@ -7,10 +7,10 @@ use native.Mathlib.Omega.{arith}
 use lib.ListN.{length, getD}
 use Rattle.fit.specs.Arrays.{sitesOf}
 use Rattle.fit.specs.Fit.{windowFit, processesFit, marksFit, currentFit, draftFit, entryAt}
-use Rattle.memory.specs.Overlay.{trap, siteOver}
+use Rattle.memory.specs.Head.{Head, trapBytes}
+use Rattle.memory.specs.Overlay.{siteOver}
 use Rattle.memory.proofs.Slots.{covered-by}
-use Rattle.memory_laws.specs.Planted.{Planted}
-use Rattle.memory_laws.specs.Bytes.{planted-at}
+use Rattle.memory_laws.specs.Planted.{Planted, planted-at}
 use Rattle.target.specs.declared.Process.{Process}
 use Rattle.target.specs.declared.Table.{Table}
 use Rattle.target.specs.declared.Target.{Target}
@@ -29,28 +29,28 @@ pub record ProcessParts (ps : List Process) (n selected pid : ℕ) : Type 0 wher
   pub current : currentFit selected pid ps n ≡ true
 
 -- a table over memory, which is a window of n bytes at base
-pub record TableParts (base n : ℕ) (u : Table) (mem : List ℕ) : Type 0 where
+pub record TableParts (head : Head) (base n : ℕ) (u : Table) (mem : List ℕ) : Type 0 where
   pub eight : length (u .entries) ≡ 8
   pub entry : (k : ℕ) → k < 8 → ShapedEntry (entryAt (u .entries) k)
   pub draftElements : length (u .draft .elements) ≡ 16
   pub draftId : u .draft .id < 256
   pub draft : draftFit (u .draft) (u .entries) ≡ true
   pub rows : Rows base n (u .entries)
-  pub planted : Planted trap (sitesOf base (u .entries)) mem
+  pub planted : Planted (trapBytes head) (sitesOf base (u .entries)) mem
   pub sized : length mem ≡ n
 
 -- the whole record and its memory
-pub record Parts (t : Target) (mem : List ℕ) : Type 0 where
+pub record Parts (head : Head) (t : Target) (mem : List ℕ) : Type 0 where
   pub window : windowFit (t .base) (t .size) ≡ true
   pub processes : ProcessParts (t .processes) (t .count) (t .selected) (t .current)
-  pub table : TableParts (t .base) (t .size) (t .table) mem
+  pub table : TableParts head (t .base) (t .size) (t .table) mem
 
-module _ (t : Target) (mem : List ℕ) where
+module _ {head : Head} (t : Target) (mem : List ℕ) where
   -- a good record has the parts
-  pub parts-of : Good t mem → Parts t mem
+  pub parts-of : Good head t mem → Parts head t mem
   parts-of g =
       let c = tests-of t mem (g .fit) in
-      let f = facts-by t mem c in
+      let f = facts-by head t mem c in
       record {
         window = c .window;
         processes = record { four = g .shaped .processes; pids = c .processes; marks = c .marks; current = c .current };
@@ -71,9 +71,9 @@ module _ (t : Target) (mem : List ℕ) where
         };
       }
 
-  module _ (c : Parts t mem) where
+  module _ (c : Parts head t mem) where
     -- a used entry's trap stands in memory
-    used-by : (k : ℕ) → Used t k → UsedFacts t mem (entryAt (t .table .entries) k)
+    used-by : (k : ℕ) → Used t k → UsedFacts head t mem (entryAt (t .table .entries) k)
     unfolding windowFit siteOver
     used-by k (h, u) =
         let w = c .window in
@@ -86,7 +86,7 @@ module _ (t : Target) (mem : List ℕ) where
         let z : s % 2 ≡ 0 = omega (arith, x .even, x .low) in
         let o : (s + 1) % 2 ≡ 1 = omega arith in
         let i : s + 1 < length mem = omega (arith, x .high, c .table .sized) in
-        let p = planted-at trap (sites t) mem (c .table .planted) in
+        let p = planted-at (trapBytes head) (sites t) mem (c .table .planted) in
         record {
           one = x .one;
           even = x .even;
@@ -98,7 +98,7 @@ module _ (t : Target) (mem : List ℕ) where
         }
 
     -- a record that has the parts is good
-    pub good-of : Good t mem
+    pub good-of : Good head t mem
     good-of =
         let p = c .processes in
         let u = c .table in
@@ -116,30 +116,31 @@ module _ (t : Target) (mem : List ℕ) where
             marks = p .marks;
             current = p .current;
             draft = u .draft;
-            entries = entries-fit t mem used-by (u .rows .ids) (u .rows .sites);
+            entries = entries-fit head t mem used-by (u .rows .ids) (u .rows .sites);
           });
           sized = u .sized;
         }
 
 -- ---- one part changed
 
-module _ (t : Target) (mem : List ℕ) (g : Good t mem) where
+module _ {head : Head} (t : Target) (mem : List ℕ) (g : Good head t mem) where
   -- the table, and memory with it
-  pub good-table : (u : Table) (mem′ : List ℕ) → TableParts (t .base) (t .size) u mem′ → Good (withTable t u) mem′
+  pub good-table : (u : Table) (mem′ : List ℕ) → TableParts head (t .base) (t .size) u mem′ → Good head (withTable t u) mem′
   unfolding withTable
   good-table u mem′ c =
       let o = parts-of t mem g in
       good-of (withTable t u) mem′ (record { window = o .window; processes = o .processes; table = c })
 
   -- the processes
-  pub good-processes : (ps : List Process) → ProcessParts ps (t .count) (t .selected) (t .current) → Good (withProcesses t ps) mem
+  pub good-processes : (ps : List Process) → ProcessParts ps (t .count) (t .selected) (t .current) → Good head (withProcesses t ps) mem
   unfolding withProcesses
   good-processes ps c =
       let o = parts-of t mem g in
       good-of (withProcesses t ps) mem (record { window = o .window; processes = c; table = o .table })
 
   -- the current process
-  pub good-current : (selected pid : ℕ) → currentFit selected pid (t .processes) (t .count) ≡ true → Good (withCurrent t selected pid) mem
+  pub good-current : (selected pid : ℕ) → currentFit selected pid (t .processes) (t .count) ≡ true
+      → Good head (withCurrent t selected pid) mem
   unfolding withCurrent
   good-current selected pid e =
       let o = parts-of t mem g in

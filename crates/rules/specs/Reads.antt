@@ -9,20 +9,20 @@ use native.Mathlib.Omega.{arith}
 use borrow.Author.Tests.{ltb-true, leb-true, leb-false, eqb-true, eqb-false, ne-eqb, le-leb, lt-leb}
 use lib.Dec.{leb, ltb, eqb}
 use lib.ListN.{length, getD, take}
-use Rattle.common.specs.Bytes.{ofLowFirst}
 use Rattle.common.specs.Tab.{tab}
 use Rattle.common.proofs.Same.{true-or-false, and-both}
 use Rattle.condition.specs.Evaluate.{evalFrom, evaluateOf, fetchOf}
 use Rattle.condition.specs.declared.Fetched.{Fetched}
 use Rattle.condition.specs.declared.Fetched.the-variants.{Word, Outside}
 use Rattle.fit.specs.Fit.{processAt, entryAt}
+use Rattle.memory.specs.Head.{Head}
 use Rattle.memory.specs.Overlay.{siteOver, slotOf, plainAt, plainOf}
 use Rattle.memory.specs.Place.{placeOf}
 use Rattle.memory.specs.Write.{bytesAt, readOf}
 use Rattle.memory.specs.declared.Place.{Place}
 use Rattle.memory.specs.declared.Place.the-variants.{Registers, Window, Nowhere}
 use Rattle.common.proofs.Cases.{on-test}
-use Rattle.memory_laws.specs.Bytes.{plain-at, plain-under}
+use Rattle.memory.proofs.Bytes.{plain-at, plain-under}
 use Rattle.memory_laws.specs.Laws.{read-plain}
 use Rattle.memory.proofs.Site.{site-place, site-same}
 use Rattle.memory.proofs.Slots.{covered-by, slot-only as slot-of}
@@ -68,7 +68,7 @@ same-answer true false id p q p′ q′ x y e f g = true-or-false (sym e)
 same-answer false true id p q p′ q′ x y e f g = true-or-false e
 same-answer false false id p q p′ q′ x y e f g = rw (f, g)
 
-module _ (s : Setup) (b : Book) (t : Target) (mem : List ℕ) (a : Agree s b t mem) where
+module _ {head : Head} (s : Setup) (b : Book) (t : Target) (mem : List ℕ) (a : Agree head s b t mem) where
   -- ---- a Tmget of the window
 
   module _ (regs : List ℕ) where
@@ -117,15 +117,15 @@ module _ (s : Setup) (b : Book) (t : Target) (mem : List ℕ) (a : Agree s b t m
 
   -- a word is the book's, whatever names its window and its plain memory have
   reads-word : (base size : ℕ) (plain : List ℕ) → t .base ≡ base → t .size ≡ size → plainOf 2 (sites t) (plains t) mem ≡ plain → (x : ℕ)
-      → fetchOf (sites t) (plains t) mem (t .base) x
-      ≡ cond (leb base x && leb (x + 4) (base + size)) (Word (ofLowFirst (bytesAt plain (x - base) 4 4))) Outside
+      → fetchOf head (sites t) (plains t) mem (t .base) x
+      ≡ cond (leb base x && leb (x + 4) (base + size)) (Word (head .word (bytesAt plain (x - base) 4 4))) Outside
   unfolding fetchOf
   reads-word base size plain p q r x = rw (← p, ← q, ← r, ← (inside x))
       (on-test (leb (t .base) x && leb (x - t .base + 4) (length mem))
       (λ e. rw (e, four-bytes (x - t .base) (leb-true _ _ (and-both _ _ e .1))))
       (λ e. rw e))
 
-  reads-fetch : fetchOf (sites t) (plains t) mem (t .base) ≡ fetchBy s b
+  reads-fetch : fetchOf head (sites t) (plains t) mem (t .base) ≡ fetchBy head s b
   unfolding fetchBy
   reads-fetch = fun-ext (λ x. reads-word (s .base) (s .size) (b .plain) (a .follows .base) (a .follows .size) (a .follows .plain) x)
 
@@ -154,19 +154,19 @@ module _ (s : Setup) (b : Book) (t : Target) (mem : List ℕ) (a : Agree s b t m
 
   -- the answer is that of the one breakpoint at the address
   answer-only : (pid pc : ℕ) (x : Breakpoint) → x .site ≡ pc → (l : List Breakpoint) → List·Memᴰ x l
-      → ((y : Breakpoint) → List·Memᴰ y l → y .site ≡ pc → y ≡ x) → answerAmong s b pid pc l ≡ answerOf s b pid x
+      → ((y : Breakpoint) → List·Memᴰ y l → y .site ≡ pc → y ≡ x) → answerAmong head s b pid pc l ≡ answerOf head s b pid x
   unfolding answerAmong
   answer-only pid pc x at [] m only = absurd (List·Memᴰ·not-nil m)
   answer-only pid pc x at (y ∷ ys) m only = on-test (eqb (y .site) pc)
-      (λ e. rw e (ap (answerOf s b pid) (only y (List·Memᴰ·head refl) (eqb-true _ _ e))))
+      (λ e. rw e (ap (answerOf head s b pid) (only y (List·Memᴰ·head refl) (eqb-true _ _ e))))
       (λ e. rw e (answer-only pid pc x at ys
       (⊎-elim (λ q. absurd (eqb-false _ _ e (ap (λ (z : Breakpoint). z .site) (sym q) ∙ at))) (λ n. n) (List·Memᴰ·cases-cons m))
       (λ z n. only z (List·Memᴰ·tail n))))
 
   -- the entry that a trap event finds answers as the book
   answers-entry : (regs : List ℕ) (i pid : ℕ) (block : List ℕ) (k : ℕ) → Used t k
-      → trapped (world t mem regs) i pid block (entryAt (t .table .entries) k) .answer
-      ≡ answerOf s b pid (dressed (entryAt (t .table .entries) k))
+      → trapped head (world t mem regs) i pid block (entryAt (t .table .entries) k) .answer
+      ≡ answerOf head s b pid (dressed (entryAt (t .table .entries) k))
   unfolding trapped holds evaluateOf answerOf dressed
   answers-entry regs i pid block k u =
       let e : Entry = entryAt (t .table .entries) k in
@@ -177,8 +177,8 @@ module _ (s : Setup) (b : Book) (t : Target) (mem : List ℕ) (a : Agree s b t m
   -- which is what the book answers at its site
   answers-found : (regs : List ℕ) (i pid : ℕ) (block : List ℕ) (pc : ℕ)
       → breakpointAt (t .table .entries) pc < length (t .table .entries)
-      → trapped (world t mem regs) i pid block (entryAt (t .table .entries) (breakpointAt (t .table .entries) pc)) .answer
-      ≡ answerAmong s b pid pc (b .breakpoints)
+      → trapped head (world t mem regs) i pid block (entryAt (t .table .entries) (breakpointAt (t .table .entries) pc)) .answer
+      ≡ answerAmong head s b pid pc (b .breakpoints)
   unfolding dressed
   answers-found regs i pid block pc h =
       let es = t .table .entries in
@@ -193,13 +193,13 @@ module _ (s : Setup) (b : Book) (t : Target) (mem : List ℕ) (a : Agree s b t m
       sym (f .same) ∙ ap (λ (j : ℕ). dressed (entryAt es j)) one))
 
   -- a trap event that is accepted answers by the book
-  reads-trap : (regs : List ℕ) (pid : ℕ) (block : List ℕ) → trap (world t mem regs) pid block .number ≡ 0
-      → trap (world t mem regs) pid block .answer ≡ trapBy s b pid block
+  reads-trap : (regs : List ℕ) (pid : ℕ) (block : List ℕ) → trap head (world t mem regs) pid block .number ≡ 0
+      → trap head (world t mem regs) pid block .answer ≡ trapBy head s b pid block
   unfolding trap refused trapBy
   reads-trap regs pid block =
       let es = t .table .entries in
       let pc = pcOf block in
-      let P : Outcome → Type 0 = λ o. o .number ≡ 0 → o .answer ≡ answerAmong s b pid pc (b .breakpoints) in
+      let P : Outcome → Type 0 = λ o. o .number ≡ 0 → o .answer ≡ answerAmong head s b pid pc (b .breakpoints) in
       on-listed P (world t mem regs) pid _
       (λ h. choose P (isStopped (processAt (t .processes) (indexOf t pid))) (λ e z. absurd (omega arith))
       (λ e. choose P (ltb (breakpointAt es pc) (length es))
@@ -208,7 +208,7 @@ module _ (s : Setup) (b : Book) (t : Target) (mem : List ℕ) (a : Agree s b t m
 
   -- ---- every step
 
-  reads-message : (regs : List ℕ) (m : Message) → ReadsMessage s b m (serve (world t mem regs) m .reply)
+  reads-message : (regs : List ℕ) (m : Message) → ReadsMessage s b m (serve head (world t mem regs) m .reply)
   unfolding ReadsMessage serve
   reads-message regs (Tmget addr n) = reads-mget regs addr n
   reads-message regs (Tmput addr n d) = tt
@@ -229,22 +229,22 @@ module _ (s : Setup) (b : Book) (t : Target) (mem : List ℕ) (a : Agree s b t m
   reads-message regs Rcondbreak = tt
 
   reads-request : (regs : List ℕ) (p : Parsed) (bytes reply : List ℕ)
-      → ReadsRequest s b p (requestBy p (world t mem regs) bytes reply .reply)
+      → ReadsRequest s b p (requestBy head p (world t mem regs) bytes reply .reply)
   unfolding ReadsRequest requestBy
   reads-request regs (Request m) bytes reply = reads-message regs m
   reads-request regs (Refused r) bytes reply = tt
   reads-request regs NotTen bytes reply = tt
 
-  pub right-step : (e : Step) → RightStep s b e (stepOf t mem e)
+  pub right-step : (e : Step) → RightStep head s b e (stepOf head t mem e)
   unfolding RightStep stepOf requestOf trapOf restartOf refused isAccepted restart replied
   right-step (request regs bytes reply) =
       on-checked (λ o. isAccepted (o .number) (o .reply) ≡ true → ReadsRequest s b (parseOf bytes) (o .reply))
-      (world t mem regs) _ reply _ (λ e. true-or-false e) (λ e. true-or-false e) (λ e. reads-request regs (parseOf bytes) bytes reply)
+      (world t mem regs) head _ reply _ (λ e. true-or-false e) (λ e. true-or-false e) (λ e. reads-request regs (parseOf bytes) bytes reply)
   right-step (trapEvent regs pid block) =
-      on-checked (λ o. o .number ≡ 0 → o .answer ≡ trapBy s b pid block) (world t mem regs) _ [] _
+      on-checked (λ o. o .number ≡ 0 → o .answer ≡ trapBy head s b pid block) (world t mem regs) head _ [] _
       (λ e. absurd (omega arith)) (λ e. absurd (omega arith)) (reads-trap regs pid block)
   right-step (scheduleEvent regs pid block) = tt
   right-step (stateEvent regs pid value) = tt
   right-step (restartStep regs reply) =
-      on-checked (λ o. o .number ≡ 0 → o .after .mem ≡ b .plain) (world t mem regs) _ reply _
+      on-checked (λ o. o .number ≡ 0 → o .after .mem ≡ b .plain) (world t mem regs) head _ reply _
       (λ e. absurd (omega arith)) (λ e. absurd (omega arith)) (λ e. a .follows .plain)

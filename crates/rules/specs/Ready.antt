@@ -7,14 +7,16 @@ use lib.ListN.{length}
 use Rattle.fit.specs.Arrays.{idsOf, sitesOf, plainsOf}
 use Rattle.fit.specs.Fit.{fitOf}
 use Rattle.fit.specs.declared.Scan.{Scan}
+use Rattle.memory.specs.Head.{Head}
 use Rattle.target.specs.declared.Target.{Target}
 use Rattle.rules.specs.declared.Answer.the-variants.{Nothing}
+use Rattle.rules.specs.declared.Effect.{Effect}
 use Rattle.rules.specs.declared.Served.{Served}
 use Rattle.rules.specs.Change.{applied}
 use Rattle.rules.specs.Outcome.{world, Outcome, outcome}
 
-pub record Ready (t : Target) (s : Scan) (mem regs : List ℕ) : Type 0 where
-  pub fit : fitOf t mem ≡ true
+pub record Ready (h : Head) (t : Target) (s : Scan) (mem regs : List ℕ) : Type 0 where
+  pub fit : fitOf h t mem ≡ true
   pub ids : s .ids ≡ idsOf (t .table .entries)
   pub sites : s .sites ≡ sitesOf (t .base) (t .table .entries)
   pub plain : s .plain ≡ plainsOf (t .table .entries)
@@ -24,3 +26,7 @@ pub record Ready (t : Target) (s : Scan) (mem regs : List ℕ) : Type 0 where
 -- an accepted request over a record, with what it leaves
 abbrev pub served : Target → Served → List ℕ → List ℕ → Outcome
 served t r mem regs = outcome 0 Nothing (world (applied t (r .change) (r .plain)) mem regs) (r .bytes)
+
+-- a step over a record, with what it leaves
+abbrev pub effected : Target → Effect → List ℕ → List ℕ → List ℕ → Outcome
+effected t r mem regs reply = outcome (r .number) (r .answer) (world (applied t (r .change) (r .plain)) mem regs) reply

@@ -8,6 +8,7 @@ use lib.Dec.{eqb}
 use lib.ListN.{length}
 use Rattle.common.proofs.Same.{true-or-false}
 use Rattle.fit.specs.Fit.{windowFit, processesFit}
+use Rattle.memory.specs.Head.{Head}
 use Rattle.target.specs.Fresh.{closedDraft, emptyTarget}
 use Rattle.target.specs.declared.Draft.{Draft}
 use Rattle.target.specs.declared.Target.{Target}
@@ -133,16 +134,17 @@ by-number P zero c = by-checks P (λ o. not (eqb (o .number) 0)) false zero (λ 
 
 -- ---- the statement
 
-pub refusals : (t : Target) (mem : List ℕ) (e : Step)
-    → Refusal (isRefused e (stepOf t mem e)) (isDropping e) (world t mem (regsOf e)) (bufferOf e) (stepOf t mem e)
+pub refusals : (head : Head) (t : Target) (mem : List ℕ) (e : Step)
+    → Refusal (isRefused e (stepOf head t mem e)) (isDropping e) (world t mem (regsOf e)) (bufferOf e) (stepOf head t mem e)
 unfolding isRefused isDropping regsOf bufferOf stepOf
-refusals t mem (request regs bytes reply) =
+refusals head t mem (request regs bytes reply) =
     by-checks (Handled (world t mem regs) (drops bytes)) (λ o. not (isAccepted (o .number) (o .reply))) (drops bytes)
-    (λ o p. served-reply p .number) (λ o. left-error) (request-checked (world t mem regs) bytes reply)
-refusals t mem (trapEvent regs pid block) = by-number Answered (λ o p. p .number) (trap-checked (world t mem regs) pid block)
-refusals t mem (scheduleEvent regs pid block) = by-number Answered (λ o p. p .number) (schedule-checked (world t mem regs) pid block)
-refusals t mem (stateEvent regs pid value) = by-number Answered (λ o p. p .number) (state-checked (world t mem regs) pid value)
-refusals t mem (restartStep regs reply) = by-number Reply (λ o p. p .number) (restart-checked (world t mem regs) reply)
+    (λ o p. served-reply p .number) (λ o. left-error) (request-checked head (world t mem regs) bytes reply)
+refusals head t mem (trapEvent regs pid block) = by-number Answered (λ o p. p .number) (trap-checked head (world t mem regs) pid block)
+refusals head t mem (scheduleEvent regs pid block) =
+    by-number Answered (λ o p. p .number) (schedule-checked head (world t mem regs) pid block)
+refusals head t mem (stateEvent regs pid value) = by-number Answered (λ o p. p .number) (state-checked head (world t mem regs) pid value)
+refusals head t mem (restartStep regs reply) = by-number Reply (λ o p. p .number) (restart-checked head (world t mem regs) reply)
 
 -- ---- setup: "lent buffers unchanged; the record is empty". "An accepted setup changes no lent buffer"
 

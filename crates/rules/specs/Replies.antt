@@ -18,6 +18,7 @@ use Rattle.condition.specs.declared.Added.{Added}
 use Rattle.condition.specs.declared.Room.{Room}
 use Rattle.condition.specs.declared.Room.the-variants.{Fits, Full, Short}
 use Rattle.fit.specs.Fit.{stopped, processAt, entryAt, entryOf, fitOf}
+use Rattle.memory.specs.Head.{Head}
 use Rattle.memory.specs.declared.Place.{Place}
 use Rattle.memory.specs.declared.Place.the-variants.{Registers, Window, Nowhere}
 use Rattle.request.specs.Request.{served, counted, parsedBy, parseOf}
@@ -62,7 +63,7 @@ either : (P : Outcome → Type 0) (c : Bool) {a b : Outcome} → P a → P b →
 either P true p q = p
 either P false p q = q
 
-module _ (w : World) where
+module _ (head : Head) (w : World) where
   -- nothing is dropped
   abbrev Plain : Outcome → Type 0
   Plain = Handled w false
@@ -106,7 +107,7 @@ module _ (w : World) where
       either Dropping (ltb 255 val || ltb (entryOf es val) (length es)) (refusing Inval)
       (either Dropping (leb (length es) (firstFree es)) (refusing Count) (accepted Rcondbreak _ refl refl))
 
-  b-of : (val : ℕ) → Dropping (setBreakpoint w val)
+  b-of : (val : ℕ) → Dropping (setBreakpoint head w val)
   unfolding setBreakpoint failed isMessage typeOf
   b-of val =
       let d = w .target .table .draft in
@@ -129,14 +130,14 @@ module _ (w : World) where
   unfolding addElement failed
   element-of e = either Dropping (inHand w) (joined-of _ _) (refusing Inval)
 
-  condbreak-of : (val op : ℕ) → Handled w (not (eqb op (code "d") && true)) (condbreak w val op)
+  condbreak-of : (val op : ℕ) → Handled w (not (eqb op (code "d") && true)) (condbreak head w val op)
   unfolding condbreak
   condbreak-of val op = go (eqb op (code "n")) refl (eqb op (code "b")) refl (eqb op (code "d")) refl
     where
       go : (n : Bool) → eqb op (code "n") ≡ n → (b : Bool) → eqb op (code "b") ≡ b → (d : Bool) → eqb op (code "d") ≡ d
           → Handled w (not (d && true))
           (cond n (beginCondition w val)
-          (cond b (setBreakpoint w val)
+          (cond b (setBreakpoint head w val)
           (cond d (deleteBreakpoint w val)
           (addElement w (record { letter = op; value = val })))))
       go true x b y true z = absurd (omega (arith, eqb-true op (code "n") x, eqb-true op (code "d") z))
@@ -148,7 +149,7 @@ module _ (w : World) where
 
   -- ---- every message, and every request of ten bytes
 
-  serve-of : (m : Message) → Handled w (drops (bytesOf m)) (serve w m)
+  serve-of : (m : Message) → Handled w (drops (bytesOf m)) (serve head w m)
   unfolding serve mget mput proc status rnote stop start isMessage drops bytesOf typeOf fieldsOf padded highFirst lowFirst allZero
   serve-of (Tmget addr n) = either Plain (eqb n 0) (accepted (Rmget _) w refl refl) (got-from _ addr n)
   serve-of (Tmput addr n d) = either Plain (eqb n 0) (accepted Rmput w refl refl) (put-to _ addr _)
@@ -178,21 +179,21 @@ module _ (w : World) where
         go true = refusing r
         go false = refusing r
 
-    read-of : (r : Reading) → readOf l ≡ r → Handled w (drops l) (requestBy (served r) w l reply)
+    read-of : (r : Reading) → readOf l ≡ r → Handled w (drops l) (requestBy head (served r) w l reply)
     unfolding requestBy served
     read-of (Accepted m) e = rw (reads-only l m e .0) at (serve-of m)
     read-of WrongSize e = refused-of Inval
     read-of NoMessage e = refused-of Inval
 
-    counted-of : (n most : ℕ) → Handled w (drops l) (requestBy (counted n most l) w l reply)
+    counted-of : (n most : ℕ) → Handled w (drops l) (requestBy head (counted n most l) w l reply)
     unfolding requestBy counted
     counted-of n most = go (leb n most)
       where
-        go : (c : Bool) → Handled w (drops l) (requestBy (cond c (served (readOf l)) (Refused Count)) w l reply)
+        go : (c : Bool) → Handled w (drops l) (requestBy head (cond c (served (readOf l)) (Refused Count)) w l reply)
         go true = read-of (readOf l) refl
         go false = refused-of Count
 
-    kind-of : (k : Kind) → Handled w (drops l) (requestBy (parsedBy k l) w l reply)
+    kind-of : (k : Kind) → Handled w (drops l) (requestBy head (parsedBy k l) w l reply)
     unfolding requestBy parsedBy
     kind-of kind.Tmget = counted-of _ _
     kind-of kind.Tmput = counted-of _ _
@@ -205,7 +206,7 @@ module _ (w : World) where
     kind-of kind.Unsupported = refused-of Unsup
     kind-of kind.Unknown = refused-of Unk
 
-    pub request-of : eqb (length l) 10 ≡ true → Handled w (drops l) (requestBy (parseOf l) w l reply)
+    pub request-of : eqb (length l) 10 ≡ true → Handled w (drops l) (requestBy head (parseOf l) w l reply)
     unfolding parseOf
     request-of h = rw h (kind-of _)
 
@@ -217,14 +218,14 @@ pub data Checked (P : Outcome → Type 0) (w : World) (reply : List ℕ) : Outco
   passed : {o : Outcome} → P o → Checked P w reply o
 
 -- numbers 2 and 3 come first
-after-checks : (P : Outcome → Type 0) (w : World) (rest : Bool) (reply : List ℕ) (o : Outcome)
-    → (rest ≡ true → Checked P w reply o) → Checked P w reply (checked w rest reply o)
+after-checks : (head : Head) (P : Outcome → Type 0) (w : World) (rest : Bool) (reply : List ℕ) (o : Outcome)
+    → (rest ≡ true → Checked P w reply o) → Checked P w reply (checked head w rest reply o)
 unfolding checked
-after-checks P w rest reply o h = go (sized w && rest) refl
+after-checks head P w rest reply o h = go (sized w && rest) refl
   where
     go : (c : Bool) → (sized w && rest) ≡ c
-        → Checked P w reply (cond c (cond (fitOf (w .target) (w .mem)) o (refused 3 w reply)) (refused 2 w reply))
-    go true e = either (Checked P w reply) (fitOf (w .target) (w .mem)) (h (and-both (sized w) rest e .1)) (held 3 refl)
+        → Checked P w reply (cond c (cond (fitOf head (w .target) (w .mem)) o (refused 3 w reply)) (refused 2 w reply))
+    go true e = either (Checked P w reply) (fitOf head (w .target) (w .mem)) (h (and-both (sized w) rest e .1)) (held 3 refl)
     go false e = held 2 refl
 
 -- a reply that is a message's ten bytes
@@ -244,16 +245,16 @@ pub record Answered (o : Outcome) : Type 0 where
   pub number : o .number ≡ 0
   pub none : o .reply ≡ []
 
-module _ (w : World) where
-  pub request-checked : (l reply : List ℕ) → Checked (Handled w (drops l)) w reply (requestOf w l reply)
+module _ (head : Head) (w : World) where
+  pub request-checked : (l reply : List ℕ) → Checked (Handled w (drops l)) w reply (requestOf head w l reply)
   unfolding requestOf
   request-checked l reply =
-      after-checks (Handled w (drops l)) w (eqb (length l) 10 && eqb (length reply) 10) reply (requestBy (parseOf l) w l reply)
-      λ h. passed (request-of w l reply (and-both (eqb (length l) 10) (eqb (length reply) 10) h .0))
+      after-checks head (Handled w (drops l)) w (eqb (length l) 10 && eqb (length reply) 10) reply (requestBy head (parseOf l) w l reply)
+      λ h. passed (request-of head w l reply (and-both (eqb (length l) 10) (eqb (length reply) 10) h .0))
 
-  pub restart-checked : (reply : List ℕ) → Checked Reply w reply (restartOf w reply)
+  pub restart-checked : (reply : List ℕ) → Checked Reply w reply (restartOf head w reply)
   unfolding restartOf restart isMessage
-  restart-checked reply = after-checks Reply w (eqb (length reply) 10) reply (restart w) λ h. passed (reply-of (Rerr Reset) _ refl)
+  restart-checked reply = after-checks head Reply w (eqb (length reply) 10) reply (restart w) λ h. passed (reply-of (Rerr Reset) _ refl)
 
   Event : Outcome → Type 0
   Event = Checked Answered w []
@@ -269,10 +270,10 @@ module _ (w : World) where
       let i = indexOf t pid in
       either Event (ltb i (t .count)) (h i (processAt (t .processes) i)) (held 4 refl)
 
-  pub trap-checked : (pid : ℕ) (block : List ℕ) → Checked Answered w [] (trapOf w pid block)
+  pub trap-checked : (pid : ℕ) (block : List ℕ) → Checked Answered w [] (trapOf head w pid block)
   unfolding trapOf trap trapped Event
   trap-checked pid block =
-      after-checks Answered w (eqb (length block) 136) [] (trap w pid block)
+      after-checks head Answered w (eqb (length block) 136) [] (trap head w pid block)
       λ h.
       on-listed pid _
       λ i p.
@@ -280,19 +281,19 @@ module _ (w : World) where
       let k = breakpointAt es (pcOf block) in
       either Event (isStopped p) (held 5 refl)
       (either Event (ltb k (length es))
-      (either Event (holds w pid (entryAt es k)) (answered-of _ _) (answered-of _ _))
+      (either Event (holds head w pid (entryAt es k)) (answered-of _ _) (answered-of _ _))
       (held 6 refl))
 
-  pub schedule-checked : (pid : ℕ) (block : List ℕ) → Checked Answered w [] (scheduleOf w pid block)
+  pub schedule-checked : (pid : ℕ) (block : List ℕ) → Checked Answered w [] (scheduleOf head w pid block)
   unfolding scheduleOf schedule Event
   schedule-checked pid block =
-      after-checks Answered w (eqb (length block) 136) [] (schedule w pid block)
+      after-checks head Answered w (eqb (length block) 136) [] (schedule w pid block)
       λ h. on-listed pid _ λ i p. either Event (eqb (p .wanted) 0) (answered-of _ _) (answered-of _ _)
 
-  pub state-checked : (pid value : ℕ) → Checked Answered w [] (stateOf w pid value)
+  pub state-checked : (pid value : ℕ) → Checked Answered w [] (stateOf head w pid value)
   unfolding stateOf state Event
   state-checked pid value =
-      after-checks Answered w true [] (state w pid value)
+      after-checks head Answered w true [] (state w pid value)
       λ h. on-listed pid _ λ i p. either Event (isStopped p || eqb value stopped) (held 5 refl) (answered-of _ _)
 
 -- ---- the statements
@@ -316,32 +317,34 @@ RightReply (scheduleEvent regs pid block) o = Answered o
 RightReply (stateEvent regs pid value) o = Answered o
 RightReply (restartStep regs reply) o = Reply o
 
-pub replies : (t : Target) (mem : List ℕ) (e : Step) → stepOf t mem e .number ≡ 0 → RightReply e (stepOf t mem e)
+pub replies : (head : Head) (t : Target) (mem : List ℕ) (e : Step) → stepOf head t mem e .number ≡ 0
+    → RightReply e (stepOf head t mem e)
 unfolding RightReply stepOf
-replies t mem (request regs bytes reply) e = served-reply (let-pass (Handled _ _) (request-checked _ bytes reply) e)
-replies t mem (trapEvent regs pid block) e = let-pass Answered (trap-checked _ pid block) e
-replies t mem (scheduleEvent regs pid block) e = let-pass Answered (schedule-checked _ pid block) e
-replies t mem (stateEvent regs pid value) e = let-pass Answered (state-checked _ pid value) e
-replies t mem (restartStep regs reply) e = let-pass Reply (restart-checked _ reply) e
+replies head t mem (request regs bytes reply) e = served-reply (let-pass (Handled _ _) (request-checked head _ bytes reply) e)
+replies head t mem (trapEvent regs pid block) e = let-pass Answered (trap-checked head _ pid block) e
+replies head t mem (scheduleEvent regs pid block) e = let-pass Answered (schedule-checked head _ pid block) e
+replies head t mem (stateEvent regs pid value) e = let-pass Answered (state-checked head _ pid value) e
+replies head t mem (restartStep regs reply) e = let-pass Reply (restart-checked head _ reply) e
 
 -- the number of every request: 2 and 3 come first, then there is only 0
-module _ (w : World) (bytes reply : List ℕ) where
+module _ (head : Head) (w : World) (bytes reply : List ℕ) where
   pub request-number :
-      requestOf w bytes reply .number
-      ≡ cond (sized w && (eqb (length bytes) 10 && eqb (length reply) 10)) (cond (fitOf (w .target) (w .mem)) 0 3) 2
+      requestOf head w bytes reply .number
+      ≡ cond (sized w && (eqb (length bytes) 10 && eqb (length reply) 10)) (cond (fitOf head (w .target) (w .mem)) 0 3) 2
   unfolding requestOf checked refused
-  request-number = go (sized w) (eqb (length bytes) 10) refl (eqb (length reply) 10) (fitOf (w .target) (w .mem))
+  request-number = go (sized w) (eqb (length bytes) 10) refl (eqb (length reply) 10) (fitOf head (w .target) (w .mem))
     where
       go : (s b : Bool) → eqb (length bytes) 10 ≡ b → (r f : Bool)
-          → (cond (s && (b && r)) (cond f (requestBy (parseOf bytes) w bytes reply) (refused 3 w reply)) (refused 2 w reply)) .number
+          → (cond (s && (b && r)) (cond f (requestBy head (parseOf bytes) w bytes reply) (refused 3 w reply)) (refused 2 w reply)) .number
           ≡ cond (s && (b && r)) (cond f 0 3) 2
       go false b e r f = refl
       go true false e r f = refl
       go true true e false f = refl
       go true true e true false = refl
-      go true true e true true = served-reply (request-of w bytes reply e) .number
+      go true true e true true = served-reply (request-of head w bytes reply e) .number
 
   -- "A request that passes 2 and 3 always gets number 0"
   pub request-passes :
-      sized w ≡ true → length bytes ≡ 10 → length reply ≡ 10 → fitOf (w .target) (w .mem) ≡ true → requestOf w bytes reply .number ≡ 0
+      sized w ≡ true → length bytes ≡ 10 → length reply ≡ 10 → fitOf head (w .target) (w .mem) ≡ true
+      → requestOf head w bytes reply .number ≡ 0
   request-passes s b r f = rw (request-number, s, eq-eqb (length bytes) 10 b, eq-eqb (length reply) 10 r, f)

@@ -6,6 +6,7 @@ use mathlib.Core.List.{List, [], _∷_}
 use lib.Dec.{leb, ltb, eqb}
 use lib.ListN.{getD, take, drop}
 use Rattle.common.specs.Same.{allZero}
+use Rattle.memory.specs.Head.{Head}
 use Rattle.memory.specs.Place.{placeOf}
 use Rattle.memory.specs.Write.{bytesAt, readOf, overwritten, memAfter, plainAfter}
 use Rattle.memory.specs.declared.Place.{Place}
@@ -134,24 +135,24 @@ start w pid =
 
 -- ---- a request that is a message
 
-unfoldable pub serve : World → Message → Outcome
-serve w (Tmget addr n) = mget w addr n
-serve w (Tmput addr n d) = mput w addr n d
-serve w (Tproc pid) = proc w pid
-serve w (Tstatus pid) = status w pid
-serve w (Trnote pid) = rnote w pid
-serve w (Tstop pid) = stop w pid
-serve w (Tstart pid) = start w pid
-serve w (Tcondbreak val op) = condbreak w val op
-serve w (Rerr r) = error Inval w
-serve w (Rmget d) = error Inval w
-serve w Rmput = error Inval w
-serve w (Rproc addr) = error Inval w
-serve w (Rstatus s) = error Inval w
-serve w Rrnote = error Inval w
-serve w Rstop = error Inval w
-serve w Rstart = error Inval w
-serve w Rcondbreak = error Inval w
+unfoldable pub serve : Head → World → Message → Outcome
+serve h w (Tmget addr n) = mget w addr n
+serve h w (Tmput addr n d) = mput w addr n d
+serve h w (Tproc pid) = proc w pid
+serve h w (Tstatus pid) = status w pid
+serve h w (Trnote pid) = rnote w pid
+serve h w (Tstop pid) = stop w pid
+serve h w (Tstart pid) = start w pid
+serve h w (Tcondbreak val op) = condbreak h w val op
+serve h w (Rerr r) = error Inval w
+serve h w (Rmget d) = error Inval w
+serve h w Rmput = error Inval w
+serve h w (Rproc addr) = error Inval w
+serve h w (Rstatus s) = error Inval w
+serve h w Rrnote = error Inval w
+serve h w Rstop = error Inval w
+serve h w Rstart = error Inval w
+serve h w Rcondbreak = error Inval w
 
 -- ---- a request that is refused by its bytes alone
 
@@ -163,7 +164,7 @@ unfoldable pub refusedBy : World → List ℕ → Reason → Outcome
 refusedBy w l r = cond (drops l) (failed r w) (error r w)
 
 -- the request's ten bytes, over a fit record and buffers of the right size
-unfoldable pub requestBy : Parsed → World → List ℕ → List ℕ → Outcome
-requestBy (Request m) w l reply = serve w m
-requestBy (Refused r) w l reply = refusedBy w l r
-requestBy NotTen w l reply = refused 2 w reply
+unfoldable pub requestBy : Head → Parsed → World → List ℕ → List ℕ → Outcome
+requestBy h (Request m) w l reply = serve h w m
+requestBy h (Refused r) w l reply = refusedBy w l r
+requestBy h NotTen w l reply = refused 2 w reply

@@ -6,7 +6,7 @@ use Prim.Native.Nat.{ℕ, zero, suc, _+_, _-_, _*_, _<_}
 use native.Mathlib.Nat.{not-suc-le-zero, le-of-suc-le-suc}
 use native.Mathlib.Omega.{arith}
 use lib.ListN.{length, getD, take, drop, set, length-append, length-drop, length-map, take-append-drop, List·getD-append}
-use lib.Seq.{getD-append-add, drop-drop}
+use lib.Seq.{getD-append-add, drop-drop, take-at, drop-at}
 use Rattle.common.specs.First.{firstOf}
 use Rattle.memory.specs.Overlay.{noSite}
 use Rattle.fit.specs.Arrays.{noId, idOf, siteOf, idsOf, sitesOf, plainsOf}
@@ -131,6 +131,16 @@ plains-with [] [] h = refl
 plains-with [] (b ∷ bs) h = absurd (omega arith)
 plains-with (e ∷ es) bytes h =
     rw (plains-with es (drop 2 bytes) (omega (arith, length-drop 2 bytes))) (take-append-drop 2 bytes)
+
+-- and the table with its own plain bytes put in is the table
+pub with-plains : (es : List Entry) → TwoEach es → withPlains es (plainsOf es) ≡ es
+unfolding withPlains plainsOf
+with-plains [] two = refl
+with-plains (e ∷ es) two =
+    let z : length (e .plain) ≡ 2 = two 0 (omega arith) in
+    ap (λ (p : List ℕ). withPlain e p ∷ withPlains es (drop 2 (e .plain ++ plainsOf es))) (take-at (e .plain) (plainsOf es) 2 z)
+    ∙ ap (λ (l : List ℕ). e ∷ withPlains es l) (drop-at (e .plain) (plainsOf es) 2 z)
+    ∙ ap (λ (l : List Entry). e ∷ l) (with-plains es (λ k h. two (suc k) (omega arith)))
 
 -- what does not look at the plain bytes is as it was
 module _ {A : Type 0} (f : Entry → A) (same : (e : Entry) (p : List ℕ) → f (withPlain e p) ≡ f e) where

@@ -1,4 +1,5 @@
 -- 01, "Steps and numbers": every step, for every record and every input. "Checks go in the order of the numbers."
+-- What comes to a trap's bytes or to a word in memory takes the head h (Head.antt of memory) first, here and in the files below.
 use Prim.Native.Nat.{ℕ, _*_}
 use mathlib.Core.Bool.{Bool, true, cond, _&&_}
 use mathlib.Core.List.{List, []}
@@ -6,6 +7,7 @@ use lib.Dec.{ltb, eqb}
 use lib.ListN.{length, getD}
 use Rattle.common.specs.Tab.{tab}
 use Rattle.fit.specs.Fit.{windowFit, processesFit, fitOf}
+use Rattle.memory.specs.Head.{Head}
 use Rattle.request.specs.Request.{parseOf}
 use Rattle.target.specs.Fresh.{noProcess, freshTable, emptyTarget}
 use Rattle.target.specs.declared.Process.{Process}
@@ -50,25 +52,25 @@ unfoldable pub sized : World → Bool
 sized w = eqb (length (w .mem)) (w .target .size) && eqb (length (w .regs)) (136 * w .target .count)
 
 -- numbers 2 and 3, then the step; rest is the test of its other buffers
-unfoldable pub checked : World → Bool → List ℕ → Outcome → Outcome
-checked w rest reply step =
-    cond (sized w && rest) (cond (fitOf (w .target) (w .mem)) step (refused 3 w reply)) (refused 2 w reply)
+unfoldable pub checked : Head → World → Bool → List ℕ → Outcome → Outcome
+checked h w rest reply step =
+    cond (sized w && rest) (cond (fitOf h (w .target) (w .mem)) step (refused 3 w reply)) (refused 2 w reply)
 
-unfoldable pub requestOf : World → List ℕ → List ℕ → Outcome
-requestOf w request reply =
-    checked w (eqb (length request) 10 && eqb (length reply) 10) reply (requestBy (parseOf request) w request reply)
+unfoldable pub requestOf : Head → World → List ℕ → List ℕ → Outcome
+requestOf h w request reply =
+    checked h w (eqb (length request) 10 && eqb (length reply) 10) reply (requestBy h (parseOf request) w request reply)
 
-unfoldable pub trapOf : World → ℕ → List ℕ → Outcome
-trapOf w pid block = checked w (eqb (length block) 136) [] (trap w pid block)
+unfoldable pub trapOf : Head → World → ℕ → List ℕ → Outcome
+trapOf h w pid block = checked h w (eqb (length block) 136) [] (trap h w pid block)
 
-unfoldable pub scheduleOf : World → ℕ → List ℕ → Outcome
-scheduleOf w pid block = checked w (eqb (length block) 136) [] (schedule w pid block)
+unfoldable pub scheduleOf : Head → World → ℕ → List ℕ → Outcome
+scheduleOf h w pid block = checked h w (eqb (length block) 136) [] (schedule w pid block)
 
-unfoldable pub stateOf : World → ℕ → ℕ → Outcome
-stateOf w pid value = checked w true [] (state w pid value)
+unfoldable pub stateOf : Head → World → ℕ → ℕ → Outcome
+stateOf h w pid value = checked h w true [] (state w pid value)
 
-unfoldable pub restartOf : World → List ℕ → Outcome
-restartOf w reply = checked w (eqb (length reply) 10) reply (restart w)
+unfoldable pub restartOf : Head → World → List ℕ → Outcome
+restartOf h w reply = checked h w (eqb (length reply) 10) reply (restart w)
 
 -- ---- a step with everything that is lent to it but the memory
 
@@ -80,9 +82,9 @@ pub data Step : Type 0 where
   restartStep : (regs reply : List ℕ) → Step
 
 -- what a step does to a record and memory
-unfoldable pub stepOf : Target → List ℕ → Step → Outcome
-stepOf t mem (request regs bytes reply) = requestOf (world t mem regs) bytes reply
-stepOf t mem (trapEvent regs pid block) = trapOf (world t mem regs) pid block
-stepOf t mem (scheduleEvent regs pid block) = scheduleOf (world t mem regs) pid block
-stepOf t mem (stateEvent regs pid value) = stateOf (world t mem regs) pid value
-stepOf t mem (restartStep regs reply) = restartOf (world t mem regs) reply
+unfoldable pub stepOf : Head → Target → List ℕ → Step → Outcome
+stepOf h t mem (request regs bytes reply) = requestOf h (world t mem regs) bytes reply
+stepOf h t mem (trapEvent regs pid block) = trapOf h (world t mem regs) pid block
+stepOf h t mem (scheduleEvent regs pid block) = scheduleOf h (world t mem regs) pid block
+stepOf h t mem (stateEvent regs pid value) = stateOf h (world t mem regs) pid value
+stepOf h t mem (restartStep regs reply) = restartOf h (world t mem regs) reply

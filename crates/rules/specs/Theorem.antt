@@ -1,4 +1,4 @@
--- Demand 3: over every list of steps after an accepted setup, real memory and every answer are the book's.
+-- Demand 3, over any head: over every list of steps after an accepted setup, real memory and every answer are the book's.
 -- The relation (Agree.antt) holds after setup, and every step and every outside change keeps it; what is claimed follows from it.
 use mathlib.Core.Path.{_≡_, refl, ap, _∙_}
 use mathlib.Core.Bool.{false, _&&_}
@@ -9,6 +9,7 @@ use native.Mathlib.Omega.{arith}
 use lib.Dec.{eqb}
 use lib.ListN.{length, set}
 use Rattle.fit.specs.Fit.{windowFit, processesFit}
+use Rattle.memory.specs.Head.{Head}
 use Rattle.memory.specs.Overlay.{covered}
 use Rattle.target.specs.declared.Target.{Target}
 use Rattle.rules.specs.declared.Answer.the-variants.{Nothing}
@@ -45,7 +46,7 @@ module _ (s : Setup) where
       (λ e z. absurd (omega arith))
 
   -- which follows the book that is opened
-  follows-setup : Good begun (s .mem) → Follows s (opened s) begun (s .mem)
+  follows-setup : {head : Head} → Good head begun (s .mem) → Follows s (opened s) begun (s .mem)
   unfolding setupTarget opened
   follows-setup good =
       let f = facts-of begun (s .mem) good in
@@ -60,29 +61,31 @@ module _ (s : Setup) where
         stopped = halted-begun (s .pids) (s .addresses) (s .count) (f .few);
       }
 
-  pub agree-setup : setupBy s .number ≡ 0 → Agree s (opened s) (setupBy s .after .target) (s .mem)
+  pub agree-setup : (head : Head) → setupBy s .number ≡ 0 → Agree head s (opened s) (setupBy s .after .target) (s .mem)
   unfolding answered
-  agree-setup h =
+  agree-setup head h =
       let same : setupBy s .after .target ≡ begun = ap (λ (o : Outcome). o .after .target) (accepted h) in
-      let good : Good begun (s .mem) = rw same at (good-setup s h) in
-      record { good = good-setup s h; follows = rw same (follows-setup good) }
+      let good : Good head begun (s .mem) = rw same at (good-setup head s h) in
+      record { good = good-setup head s h; follows = rw same (follows-setup good) }
 
 -- ---- every list
 
 -- an outside change under no trap
-agree-change : (s : Setup) (b : Book) (t : Target) (mem : List ℕ) (i byte : ℕ) → Agree s b t mem → underTrap s b i ≡ false
-    → Agree s (withPlain b (set (b .plain) i byte)) t (set mem i byte)
+agree-change : {head : Head} (s : Setup) (b : Book) (t : Target) (mem : List ℕ) (i byte : ℕ)
+    → Agree head s b t mem → underTrap s b i ≡ false
+    → Agree head s (withPlain b (set (b .plain) i byte)) t (set mem i byte)
 unfolding underTrap
 agree-change s b t mem i byte a e =
     let bare : covered 2 (sites t) i ≡ false = same-covered s b t mem a i ∙ e in
     record { good = good-change t mem i byte (a .good) bare; follows = move-change s b t mem (a .follows) i byte bare }
 
 -- what is claimed holds wherever the relation does
-pub claimed : (es : List Event) (s : Setup) (b : Book) (t : Target) (mem : List ℕ) → Agree s b t mem → Claim s b t mem es
+pub claimed : {head : Head} (es : List Event) (s : Setup) (b : Book) (t : Target) (mem : List ℕ)
+    → Agree head s b t mem → Claim head s b t mem es
 unfolding Claim
 claimed [] s b t mem a = real-memory s b t mem a
-claimed (step e ∷ es) s b t mem a =
-    let o = stepOf t mem e in (
+claimed {head} (step e ∷ es) s b t mem a =
+    let o = stepOf head t mem e in (
       real-memory s b t mem a,
       never-three t mem e (a .good),
       right-step s b t mem a e,
@@ -94,5 +97,5 @@ claimed (change i byte ∷ es) s b t mem a = (
   λ e. claimed es s (withPlain b (set (b .plain) i byte)) t (set mem i byte) (agree-change s b t mem i byte a e),
 )
 
-pub demand3 : Demand3
-demand3 s h es = claimed es s (opened s) (setupBy s .after .target) (s .mem) (agree-setup s h)
+pub demand3 : (head : Head) → Demand3 head
+demand3 head s h es = claimed es s (opened s) (setupBy s .after .target) (s .mem) (agree-setup s head h)

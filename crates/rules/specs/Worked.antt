@@ -18,6 +18,7 @@ use Rattle.wire.specs.Kind.{kinds, kindOf}
 use Rattle.wire.specs.Message.{isMessage, isPut, isOp, bytesOf, typeOf, fieldsOf, bytes4, bytes9}
 use Rattle.text.specs.Text.{reasonName, hexDigit, hexBytes, stateNames, stateText, addressText}
 use Rattle.request.specs.Request.{served, counted, parsedBy, parseOf}
+use Rattle.memory.specs.Head.{house}
 use Rattle.memory.specs.Overlay.{siteOver, slotOf, covered, plainAt, plainOf, laidAt, laidOver}
 use Rattle.memory.specs.Place.{placeOf}
 use Rattle.memory.specs.Write.{bytesAt, readOf, writtenAt, overwritten, memAfter, offsetOf, plainAfter}
@@ -190,6 +191,6 @@ rows =
     (reply 0x07_3830303031303030_00 ∷ reply 0x01_6e6f7473746f70_0000 ∷ []) ∷ []
 
 -- the worked setup is accepted, and after it the rules show every row
-pub worked : (setup .number ≡ 0) × (map (λ r. after stepOf (r .calls)) rows ≡ map (λ r. r .shows) rows)
+pub worked : (setup .number ≡ 0) × (map (λ r. after (stepOf house) (r .calls)) rows ≡ map (λ r. r .shows) rows)
 unfolding rows after
 worked = (refl, refl)

@@ -2,6 +2,7 @@
 use target::Target;
 ghost use mathlib.Core.Path.{_≡_};
 ghost use lib.ListN.{replicate};
+ghost use Rattle.rules.specs.declared.Change.the-variants as change;
 
 // The answer of an event: Stop with the id or Pass with the two plain bytes of a trap, yes or no of a schedule event.
 pub enum Answer {
@@ -19,7 +20,7 @@ pub struct Done {
     pub target: Target,
 }
 
-// What an accepted request changes in the record; `change::apply` makes it.
+// What a step changes in the record; `change::apply` makes it.
 pub enum Change {
     // nothing
     Same,
@@ -41,6 +42,16 @@ pub enum Change {
     Remove(usize),
     // the process at the first index is Ready and unmarked, the entry at the second is free
     Start(usize, usize),
+    // a restart: no breakpoint, nothing in hand, none current, no mark, nobody Stopped
+    Restart,
+}
+
+// The number and the answer of a step, with what it changes in the record and, for a change of the entries' plain bytes, those bytes.
+pub struct Effect {
+    pub number: u8,
+    pub answer: Answer,
+    pub change: Change,
+    pub plain: [u8; 16],
 }
 
 // What an accepted request gives: what it changes in the record, the entries' plain bytes, and the reply's ten bytes.
@@ -59,6 +70,34 @@ impl Served {
             change,
             plain: [0; 16],
             bytes: bytes,
+        }
+    }
+}
+
+impl Effect {
+    // A step that leaves the record as it was.
+    pub fn keeping(number: u8, answer: Answer) -> Effect
+        ensures { λ r. ⌜ r ≡ record { number = number; answer = answer; change = change.Same; plain = replicate 16 0 } ⌝ }
+    {
+        let none = [0; 16];
+        Effect {
+            number,
+            answer,
+            change: Change::Same,
+            plain: none,
+        }
+    }
+
+    // An accepted step that changes the record, other than plain bytes.
+    pub fn changing(answer: Answer, change: Change) -> Effect
+        ensures { λ r. ⌜ r ≡ record { number = 0; answer = answer; change = change; plain = replicate 16 0 } ⌝ }
+    {
+        let zeros = [0; 16];
+        Effect {
+            number: 0,
+            answer,
+            change: change,
+            plain: zeros,
         }
     }
 }

@@ -10,6 +10,7 @@ ghost use mathlib.Core.Bool.{true};
 ghost use mathlib.Core.List.{List};
 ghost use Prim.Native.Nat.{ℕ};
 ghost use lib.ListN.{length};
+ghost use Rattle.memory.specs.Head.{house};
 ghost use Rattle.target.specs.declared.Target.{Target};
 ghost use Rattle.wire.specs.Message.{isMessage};
 ghost use Rattle.rules.specs.Outcome.{world};
@@ -18,9 +19,9 @@ ghost use Rattle.rules.specs.Request.{drops, refusedBy, serve as serveOf};
 
 // A request that is a message.
 pub fn serve(t: Target, s: Scan, mem: &mut [u8], regs: &mut [u8], m: Message) -> Served
-    requires { ⌜ Ready t s (now mem) (now regs) ⌝ }
+    requires { ⌜ Ready house t s (now mem) (now regs) ⌝ }
     requires { ⌜ isMessage m ≡ true ⌝ }
-    ensures { λ r. ⌜ served t r (now (mem .exit)) (now (regs .exit)) ≡ serveOf (world t (now (mem .entry)) (now (regs .entry))) m ⌝ }
+    ensures { λ r. ⌜ served t r (now (mem .exit)) (now (regs .exit)) ≡ serveOf house (world t (now (mem .entry)) (now (regs .entry))) m ⌝ }
 {
     match m {
         Message::Tmget { addr, n } => {

@@ -1,64 +1,27 @@
-// The steps of the debug stub that leave the record with their caller: each says what changes in it. Each is one call over a record by value and lent buffers
-// of any size; each refuses bad input itself.
+// Every step but the setup, by its kind: the buffers' sizes, then whether the record is fit, then the step itself. A step says what it changes
+// in the record, which stays with its caller. One function for all steps, so that the record is tested in one place.
+use fit::Scan;
 use request::Parsed;
 use rules::Answer;
 use rules::Change;
+use rules::Effect;
 use rules::Served;
 use target::Target;
 use text::Reason;
+use wire::Message;
 ghost use mathlib.Core.Path.{_≡_};
-ghost use mathlib.Core.Bool.{_&&_, not};
-ghost use mathlib.Core.List.{[]};
-ghost use Prim.Native.Nat.{_+_, _*_, _≤_};
+ghost use mathlib.Core.Bool.{_&&_};
+ghost use Prim.Native.Nat.{_*_};
 ghost use lib.Dec.{eqb};
 ghost use lib.ListN.{length};
-ghost use Rattle.rules.specs.Outcome.{world, outcome};
-ghost use Rattle.rules.specs.Record.{saved, pcOf};
-ghost use Rattle.rules.specs.Step.{requestOf, trapOf, scheduleOf, stateOf};
+ghost use Rattle.memory.specs.Head.{house};
+ghost use Rattle.request.specs.Request.{parseOf};
+ghost use Rattle.rules.specs.Outcome.{world};
+ghost use Rattle.rules.specs.Ready.{Ready, effected};
+ghost use Rattle.rules.specs.Request.{requestBy};
+ghost use Rattle.rules.specs.Event.{restart as restartRule};
 ghost use Rattle.rules.specs.declared.Answer.the-variants as answer;
-ghost use Rattle.steps.specs.Effect.{afterOf, keeps, sets, isSame};
-
-// The number and the answer of a step, with what it changes in the record: nothing where `changed` is false.
-pub struct Effect {
-    pub number: u8,
-    pub answer: Answer,
-    pub changed: bool,
-    pub change: Change,
-    pub plain: [u8; 16],
-}
-
-// A step that leaves the record as it was.
-fn unchanged(number: u8, answer: Answer) -> Effect
-    ensures { λ r. ⌜ r ≡ keeps number answer ⌝ }
-{
-    Effect {
-        number,
-        answer,
-        changed: false,
-        change: Change::Same,
-        plain: [0; 16],
-    }
-}
-
-// A step that is refused: no change and no answer.
-fn refused_step(number: u8) -> Effect
-    ensures { λ r. ⌜ r ≡ keeps number answer.Nothing ⌝ }
-{
-    unchanged(number, Answer::Nothing)
-}
-
-// An accepted step that sets the state and the mark of the process at an index.
-fn set_step(answer: Answer, i: usize, state: u8, wanted: u8) -> Effect
-    ensures { λ r. ⌜ r ≡ sets answer i state wanted ⌝ }
-{
-    Effect {
-        number: 0,
-        answer,
-        changed: true,
-        change: Change::State(i, state, wanted),
-        plain: [0; 16],
-    }
-}
+ghost use Rattle.steps.specs.Kinds.{lentRight, stepBy};
 
 // Memory is M bytes, and there are 136 register bytes for each process.
 pub fn sizes_right(t: Target, mem: usize, regs: usize) -> bool
@@ -69,66 +32,49 @@ pub fn sizes_right(t: Target, mem: usize, regs: usize) -> bool
     mem == size && regs as u64 == blocks
 }
 
-// Ten bytes as the reply.
-pub fn write_reply(bytes: [u8; 10], reply: &mut [u8])
-    requires { ⌜ length (now reply) ≡ 10 ⌝ }
-    ensures { λ _. ⌜ now (reply .exit) ≡ bytes ⌝ }
+// A request and a reply are ten bytes, a block 136.
+pub fn lent_right(kind: u8, input: usize, reply: usize) -> bool
+    ensures { λ r. ⌜ r ≡ lentRight kind input reply ⌝ }
 {
-    common::copy(reply, &bytes);
-}
-
-// Does a change leave the record as it was?
-fn is_same(c: Change) -> bool
-    ensures { λ r. ⌜ r ≡ isSame c ⌝ }
-{
-    match c {
-        Change::Same => true,
-        _ => false,
+    match kind {
+        1 => input == 10 && reply == 10,
+        2 => input == 136,
+        3 => input == 136,
+        4 => true,
+        _ => reply == 10,
     }
 }
 
 // An accepted request: its change of the record, and its ten bytes in the reply.
 fn accepted(done: Served, reply: &mut [u8]) -> Effect
     requires { ⌜ length (now reply) ≡ 10 ⌝ }
-    ensures { λ r. ⌜ (r ≡ record { number = 0; answer = answer.Nothing; changed = not (isSame (done .change)); change = done .change; plain = done .plain }) × (now (reply .exit) ≡ done .bytes) ⌝ }
+    ensures { λ r. ⌜ (r ≡ record { number = 0; answer = answer.Nothing; change = done .change; plain = done .plain }) × (now (reply .exit) ≡ done .bytes) ⌝ }
 {
     let change = done.change;
     let plain = done.plain;
     let bytes = done.bytes;
-    write_reply(bytes, reply);
-    let same = is_same(change);
+    common::copy(reply, &bytes);
     Effect {
         number: 0,
         answer: Answer::Nothing,
-        changed: !same,
         change,
         plain: plain,
     }
 }
 
-// A request of ten bytes, answered in ten: what it changes in the record.
-pub fn request_step(
+// A request of ten bytes, answered in ten.
+fn request(
     t: Target,
+    s: Scan,
     mem: &mut [u8],
     regs: &mut [u8],
     bytes: &[u8],
     reply: &mut [u8],
 ) -> Effect
-    ensures { λ r. ⌜ outcome (r .number) (r .answer) (world (afterOf t r) (now (mem .exit)) (now (regs .exit))) (now (reply .exit)) ≡ requestOf (world t (now (mem .entry)) (now (regs .entry))) (now (bytes .entry)) (now (reply .entry)) ⌝ }
+    requires { ⌜ Ready house t s (now mem) (now regs) ⌝ }
+    requires { ⌜ (length (now bytes) ≡ 10) × (length (now reply) ≡ 10) ⌝ }
+    ensures { λ r. ⌜ effected t r (now (mem .exit)) (now (regs .exit)) (now (reply .exit)) ≡ requestBy house (parseOf (now (bytes .entry))) (world t (now (mem .entry)) (now (regs .entry))) (now (bytes .entry)) (now (reply .entry)) ⌝ }
 {
-    if !sizes_right(t, mem.len(), regs.len()) {
-        return refused_step(2);
-    }
-    if bytes.len() != 10 {
-        return refused_step(2);
-    }
-    if reply.len() != 10 {
-        return refused_step(2);
-    }
-    let s = fit::check(t, mem);
-    if !s.fit {
-        return refused_step(3);
-    }
     let asked = request::parse(bytes);
     match asked {
         Parsed::Request(m) => {
@@ -139,127 +85,54 @@ pub fn request_step(
             let done = serve::refuse(bytes, reason);
             accepted(done, reply)
         }
-        Parsed::NotTen => refused_step(2),
+        Parsed::NotTen => Effect::keeping(2, Answer::Nothing),
     }
 }
 
-// Saves the registers of the process at an index.
-fn save(regs: &mut [u8], i: usize, block: &[u8])
-    requires { ⌜ (136 * i + 136 ≤ length (now regs)) × (length (now block) ≡ 136) ⌝ }
-    ensures { λ _. ⌜ now (regs .exit) ≡ saved (now (regs .entry)) i (now (block .entry)) ⌝ }
+// A restart: every trap's plain bytes go back.
+fn restart<'a>(t: Target, s: Scan, mem: &'a mut [u8], regs: &'a [u8], reply: &'a mut [u8]) -> Effect
+    requires { ⌜ Ready house t s (now mem) (now regs) ⌝ }
+    requires { ⌜ length (now reply) ≡ 10 ⌝ }
+    ensures { λ r. ⌜ effected t r (now (mem .exit)) (now (regs .entry)) (now (reply .exit)) ≡ restartRule (world t (now (mem .entry)) (now (regs .entry))) ⌝ }
 {
-    let from = 136 * i;
-    let end = from + block.len();
-    common::copy(&mut regs[from..end], block);
-}
-
-// The pc of a block.
-fn pc_of(block: &[u8]) -> u32
-    requires { ⌜ length (now block) ≡ 136 ⌝ }
-    ensures { λ r. ⌜ r ≡ pcOf (now (block .entry)) ⌝ }
-{
-    common::word(block[132], block[133], block[134], block[135])
-}
-
-// Saves a block, and makes its process Stopped with no stop wanted.
-fn stop_step(regs: &mut [u8], i: usize, block: &[u8], answer: Answer) -> Effect
-    requires { ⌜ (136 * i + 136 ≤ length (now regs)) × (length (now block) ≡ 136) ⌝ }
-    ensures { λ r. ⌜ (r ≡ sets answer i 8 0) × (now (regs .exit) ≡ saved (now (regs .entry)) i (now (block .entry))) ⌝ }
-{
-    save(regs, i, block);
-    set_step(answer, i, 8, 0)
-}
-
-// A process ran into a trap, with these registers: what it changes in the record.
-pub fn trap_step(t: Target, mem: &[u8], regs: &mut [u8], pid: u32, block: &[u8]) -> Effect
-    ensures { λ r. ⌜ outcome (r .number) (r .answer) (world (afterOf t r) (now (mem .entry)) (now (regs .exit))) [] ≡ trapOf (world t (now (mem .entry)) (now (regs .entry))) pid (now (block .entry)) ⌝ }
-{
-    if !sizes_right(t, mem.len(), regs.len()) {
-        return refused_step(2);
-    }
-    if block.len() != 136 {
-        return refused_step(2);
-    }
-    let s = fit::check(t, mem);
-    if !s.fit {
-        return refused_step(3);
-    }
-    let ps = t.processes;
-    let n = t.count as usize;
-    let i = fit::process_of(ps, t.count, pid);
-    if n <= i {
-        return refused_step(4);
-    }
-    let p = ps[i];
-    if p.state == 8 {
-        return refused_step(5);
-    }
-    let pc = pc_of(block);
-    let k = breaks::breakpoint_at(t, s, mem, regs, pc);
-    if 8 <= k {
-        return refused_step(6);
-    }
-    let table = t.table;
-    let e = table.entries[k];
-    let elements = e.elements;
     let sites = s.sites;
     let plain = s.plain;
-    if condition::evaluate(mem, t.base, &sites, &plain, pid, elements, e.count) {
-        return stop_step(regs, i, block, Answer::Stop(e.id));
-    }
-    unchanged(0, Answer::Pass(e.plain[0], e.plain[1]))
+    memory::restore(mem, &sites, &plain);
+    let bytes = wire::bytes_of(Message::Rerr {
+        reason: Reason::Reset,
+    });
+    common::copy(reply, &bytes);
+    Effect::changing(Answer::Nothing, Change::Restart)
 }
 
-// The kernel is about to run a process, with these registers: is it to stop, and what does that change in the record?
-pub fn schedule_step(t: Target, mem: &[u8], regs: &mut [u8], pid: u32, block: &[u8]) -> Effect
-    ensures { λ r. ⌜ outcome (r .number) (r .answer) (world (afterOf t r) (now (mem .entry)) (now (regs .exit))) [] ≡ scheduleOf (world t (now (mem .entry)) (now (regs .entry))) pid (now (block .entry)) ⌝ }
+// A step by its kind: 1 a request, 2 a trap, 3 a schedule event, 4 a state event, 5 a restart.
+pub fn step(
+    t: Target,
+    kind: u8,
+    mem: &mut [u8],
+    regs: &mut [u8],
+    pid: u32,
+    value: u8,
+    input: &[u8],
+    reply: &mut [u8],
+) -> Effect
+    ensures { λ r. ⌜ effected t r (now (mem .exit)) (now (regs .exit)) (now (reply .exit)) ≡ stepBy kind (world t (now (mem .entry)) (now (regs .entry))) pid value (now (input .entry)) (now (reply .entry)) ⌝ }
 {
     if !sizes_right(t, mem.len(), regs.len()) {
-        return refused_step(2);
+        return Effect::keeping(2, Answer::Nothing);
     }
-    if block.len() != 136 {
-        return refused_step(2);
+    if !lent_right(kind, input.len(), reply.len()) {
+        return Effect::keeping(2, Answer::Nothing);
     }
-    let s = fit::check(t, mem);
+    let s = scan::check(t, mem);
     if !s.fit {
-        return refused_step(3);
+        return Effect::keeping(3, Answer::Nothing);
     }
-    let ps = t.processes;
-    let n = t.count as usize;
-    let i = fit::process_of(ps, t.count, pid);
-    if n <= i {
-        return refused_step(4);
+    match kind {
+        1 => request(t, s, mem, regs, input, reply),
+        2 => events::trap(t, s, mem, regs, pid, input),
+        3 => events::schedule(t, regs, pid, input),
+        4 => events::state(t, pid, value),
+        _ => restart(t, s, mem, regs, reply),
     }
-    let p = ps[i];
-    if p.wanted == 0 {
-        return unchanged(0, Answer::No);
-    }
-    stop_step(regs, i, block, Answer::Yes)
-}
-
-// The kernel gives a process another state: what it changes in the record.
-pub fn state_step(t: Target, mem: &[u8], regs: &[u8], pid: u32, value: u8) -> Effect
-    ensures { λ r. ⌜ outcome (r .number) (r .answer) (world (afterOf t r) (now (mem .entry)) (now (regs .entry))) [] ≡ stateOf (world t (now (mem .entry)) (now (regs .entry))) pid value ⌝ }
-{
-    if !sizes_right(t, mem.len(), regs.len()) {
-        return refused_step(2);
-    }
-    let s = fit::check(t, mem);
-    if !s.fit {
-        return refused_step(3);
-    }
-    let ps = t.processes;
-    let n = t.count as usize;
-    let i = fit::process_of(ps, t.count, pid);
-    if n <= i {
-        return refused_step(4);
-    }
-    let p = ps[i];
-    if p.state == 8 {
-        return refused_step(5);
-    }
-    if value == 8 {
-        return refused_step(5);
-    }
-    set_step(Answer::Nothing, i, value, p.wanted)
 }

@@ -1,99 +1,42 @@
--- Laws of setup and restart. Assumes nothing.
-use mathlib.Core.Path.{_≡_, refl, ap, _∙_}
-use mathlib.Core.Bool.{true, false, cond, and-false}
-use mathlib.Core.List.{List, [], _∷_, _++_, map}
-use Prim.Native.Nat.{ℕ, zero, suc, _+_, _<_, _≤_}
-use native.Mathlib.Nat.{not-suc-le-zero, le-of-suc-le-suc}
-use native.Mathlib.Numerals.{add-one}
+-- Laws of setup, and of an event, which has no reply. Assumes nothing.
+use mathlib.Core.Path.{_≡_, refl, sym, ap, _∙_}
+use mathlib.Core.Bool.{true, false, and-false}
+use mathlib.Core.List.{List, []}
+use Prim.Native.Nat.{ℕ, _+_, _<_, _≤_}
 use native.Mathlib.Omega.{arith}
-use borrow.Author.Tests.{lt-ltb, le-ltb, eq-eqb, ne-eqb}
-use lib.Dec.{eqb}
-use lib.ListN.{length, getD, take, drop, set, length-set}
+use borrow.Author.Tests.{lt-ltb, le-ltb}
+use lib.ListN.{length, getD, set, length-set}
 use lib.Seq.{getD-set-same, getD-set-other}
 use Rattle.common.specs.Tab.{tab}
 use Rattle.common.proofs.Cases.{on-less, on-same}
 use Rattle.common.proofs.Tab.{length-tab, tab-at, tab-is, tab-ext}
-use Rattle.fit.specs.Fit.{stopped, windowFit, processAt, processesFit}
-use Rattle.fit.specs.declared.Scan.{Scan}
-use Rattle.memory.specs.Overlay.{plainOf}
-use Rattle.rules.specs.Event.{restarted, restart}
-use Rattle.rules.specs.Outcome.{World, world, outcome, answered, refused, replied}
-use Rattle.rules.specs.Record.{ready, withProcesses, withState, isStopped}
+use Rattle.fit.specs.Fit.{windowFit, processesFit}
+use Rattle.rules.specs.Outcome.{World, world, Outcome, outcome, answered, refused}
+use Rattle.rules.specs.Ready.{effected}
+use Rattle.rules.specs.Record.{ready}
+use Rattle.rules.specs.Replies.{Answered, Checked, held, passed}
 use Rattle.rules.specs.Step.{beginning, setupTarget, setupOf}
 use Rattle.rules.specs.declared.Answer.the-variants.{Nothing}
-use Rattle.rules.specs.declared.Done.{Done}
-use Rattle.target.specs.Fresh.{noProcess, freshTable, emptyTarget}
+use Rattle.rules.specs.declared.Effect.{Effect}
+use Rattle.steps.specs.Kinds.{leaving}
+use Rattle.steps.proofs.Laws.{sizes}
+use Rattle.target.specs.Fresh.{noProcess, emptyTarget}
 use Rattle.target.specs.declared.Process.{Process}
 use Rattle.target.specs.declared.Target.{Target}
-use Rattle.wire.specs.Message.{bytesOf}
-use Rattle.wire.specs.declared.Message.the-variants.{Rerr}
-use Rattle.text.specs.declared.Reason.the-variants.{Reset}
-use Rattle.steps.proofs.Laws.{sizes, Begun}
 
--- a refused step gives the record back as it was
-pub refuses-whole : (w : World) (reply : List ℕ) (n : ℕ) (d : Done) → d ≡ record { number = n; answer = Nothing; target = w .target }
-    → outcome (d .number) (d .answer) (world (d .target) (w .mem) (w .regs)) reply ≡ refused n w reply
-unfolding refused
-refuses-whole w reply n d e = rw e
+-- ---- an event
 
--- ---- restart
+-- it has no reply
+unreplied : {w : World} {x : Outcome} → Checked Answered w [] x → leaving [] x ≡ x
+unfolding leaving refused
+unreplied (held n h) = refl
+unreplied {x = x} (passed p) = ap (outcome (x .number) (x .answer) (x .after)) (sym (p .none))
 
--- the processes, those before place i with f done to them
-module _ {A : Type 0} (f : A → A) where
-  abbrev pub front : List A → ℕ → List A
-  front l i = map f (take i l) ++ drop i l
-
-  front-at : (l : List A) (d : A) (i : ℕ) → i < length l → getD (front l i) i d ≡ getD l i d
-  front-at [] d i h = absurd (not-suc-le-zero h)
-  front-at (x ∷ xs) d zero h = refl
-  front-at (x ∷ xs) d (suc i) h = front-at xs d i (le-of-suc-le-suc h)
-
-  front-more : (l : List A) (d : A) (i : ℕ) → i < length l → set (front l i) i (f (getD l i d)) ≡ front l (suc i)
-  front-more [] d i h = absurd (not-suc-le-zero h)
-  front-more (x ∷ xs) d zero h = refl
-  front-more (x ∷ xs) d (suc i) h = ap (λ (l : List A). f x ∷ l) (front-more xs d i (le-of-suc-le-suc h))
-
--- one process more
-pub restart-more : (t u : Target) (i new : ℕ) → i < length (t .processes)
-    → u ≡ withProcesses t (front restarted (t .processes) i)
-    → (let p = processAt (u .processes) i in new ≡ cond (eqb (p .state) stopped) ready (p .state))
-    → withProcesses u (set (u .processes) i (withState (processAt (u .processes) i) new 0))
-    ≡ withProcesses t (front restarted (t .processes) (i + 1))
-unfolding withProcesses restarted isStopped
-restart-more t u i new h e n =
-    rw (n, e, front-at restarted (t .processes) noProcess i h, add-one)
-    (ap (withProcesses t) (front-more restarted (t .processes) noProcess i h))
-
--- a Stopped process becomes Ready
-pub made-ready : (old new : ℕ) → old ≡ stopped → new ≡ ready → new ≡ cond (eqb old stopped) ready old
-made-ready old new s e = rw (eq-eqb old stopped s) e
-
-pub kept-state : (old new : ℕ) → (old ≡ stopped → ⊥) → new ≡ old → new ≡ cond (eqb old stopped) ready old
-kept-state old new s e = rw (ne-eqb old stopped s) e
-
--- every process is passed
-pub restart-all : (w : World) (u : Target) (i : ℕ) → u ≡ withProcesses (w .target) (front restarted (w .target .processes) i)
-    → i ≡ w .target .count
-    → restart w .after .target
-    ≡ record {
-      base = u .base;
-      size = u .size;
-      count = u .count;
-      processes = u .processes;
-      selected = 0;
-      current = 0;
-      table = freshTable;
-    }
-unfolding withProcesses restart replied
-restart-all w u i e n = rw (e, n)
-
--- what the step leaves
-pub restart-as : (w : World) (s : Scan) → Begun w s → (t : Target) (d : Done) (mem reply : List ℕ)
-    → d ≡ record { number = 0; answer = Nothing; target = t }
-    → restart w .after .target ≡ t → mem ≡ plainOf 2 (s .sites) (s .plain) (w .mem) → reply ≡ bytesOf (Rerr Reset)
-    → outcome (d .number) (d .answer) (world (d .target) mem (w .regs)) reply ≡ restart w
-unfolding restart replied
-restart-as w s ok t d mem reply q e m r = rw (q, ← e, m, ok .sites, ok .plain, r)
+-- so what its step leaves in the reply buffer does not matter
+pub no-reply : (t : Target) (e : Effect) (mem regs reply lent : List ℕ) (w : World) (x : Outcome)
+    → effected t e mem regs reply ≡ leaving lent x → Checked Answered w [] x → effected t e mem regs [] ≡ x
+unfolding leaving
+no-reply t e mem regs reply lent w x f c = ap (leaving []) f ∙ unreplied c
 
 -- ---- setup
 

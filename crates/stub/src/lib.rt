@@ -2,38 +2,31 @@
 // the record afterwards.
 use rules::Answer;
 use rules::Done;
-use steps::Effect;
+use rules::Effect;
 use target::Process;
 use target::Table;
 use target::Target;
-use text::Reason;
-use wire::Message;
 ghost use mathlib.Core.Path.{_≡_};
 ghost use mathlib.Core.List.{List, []};
 ghost use Prim.Native.Nat.{ℕ, _≤_};
+ghost use Rattle.memory.specs.Head.{house};
 ghost use Rattle.rules.specs.Outcome.{world, outcome};
-ghost use Rattle.rules.specs.Event.{restart as restartRule};
 ghost use Rattle.rules.specs.Step.{setupTarget, setupOf, requestOf, trapOf, scheduleOf, stateOf, restartOf};
 ghost use Rattle.rules.specs.declared.Answer.the-variants as answer;
-ghost use Rattle.steps.specs.Effect.{afterOf};
+ghost use Rattle.rules.specs.Change.{applied};
 
 // Makes the change of a step.
-fn finish(t: Target, d: Effect) -> Done
-    ensures { λ r. ⌜ r ≡ record { number = d .number; answer = d .answer; target = afterOf t d } ⌝ }
+fn finish(t: Target, e: Effect) -> Done
+    ensures { λ r. ⌜ r ≡ record { number = e .number; answer = e .answer; target = applied t (e .change) (e .plain) } ⌝ }
 {
-    let number = d.number;
-    let answer = d.answer;
-    let change = d.change;
-    let plain = d.plain;
-    let after = if d.changed {
-        change::apply(t, change, plain)
-    } else {
-        t
-    };
+    let answer = e.answer;
+    let change = e.change;
+    let plain = e.plain;
+    let target = change::apply(t, change, plain);
     Done {
-        number,
+        number: e.number,
         answer,
-        target: after,
+        target: target,
     }
 }
 
@@ -114,83 +107,43 @@ pub fn setup(
 
 // A request of ten bytes, answered in ten.
 pub fn request(t: Target, mem: &mut [u8], regs: &mut [u8], bytes: &[u8], reply: &mut [u8]) -> Done
-    ensures { λ r. ⌜ outcome (r .number) (r .answer) (world (r .target) (now (mem .exit)) (now (regs .exit))) (now (reply .exit)) ≡ requestOf (world t (now (mem .entry)) (now (regs .entry))) (now (bytes .entry)) (now (reply .entry)) ⌝ }
+    ensures { λ r. ⌜ outcome (r .number) (r .answer) (world (r .target) (now (mem .exit)) (now (regs .exit))) (now (reply .exit)) ≡ requestOf house (world t (now (mem .entry)) (now (regs .entry))) (now (bytes .entry)) (now (reply .entry)) ⌝ }
 {
-    let d = steps::request_step(t, mem, regs, bytes, reply);
-    finish(t, d)
+    let e = steps::step(t, 1, mem, regs, 0, 0, bytes, reply);
+    finish(t, e)
 }
 
 // A process ran into a trap, with these registers.
-pub fn trap(t: Target, mem: &[u8], regs: &mut [u8], pid: u32, block: &[u8]) -> Done
-    ensures { λ r. ⌜ outcome (r .number) (r .answer) (world (r .target) (now (mem .entry)) (now (regs .exit))) [] ≡ trapOf (world t (now (mem .entry)) (now (regs .entry))) pid (now (block .entry)) ⌝ }
+pub fn trap(t: Target, mem: &mut [u8], regs: &mut [u8], pid: u32, block: &[u8]) -> Done
+    ensures { λ r. ⌜ outcome (r .number) (r .answer) (world (r .target) (now (mem .exit)) (now (regs .exit))) [] ≡ trapOf house (world t (now (mem .entry)) (now (regs .entry))) pid (now (block .entry)) ⌝ }
 {
-    let d = steps::trap_step(t, mem, regs, pid, block);
-    finish(t, d)
+    let mut none: [u8; 1] = [0; 1];
+    let e = steps::step(t, 2, mem, regs, pid, 0, block, &mut none[..]);
+    finish(t, e)
 }
 
 // The kernel is about to run a process, with these registers: is it to stop?
-pub fn schedule(t: Target, mem: &[u8], regs: &mut [u8], pid: u32, block: &[u8]) -> Done
-    ensures { λ r. ⌜ outcome (r .number) (r .answer) (world (r .target) (now (mem .entry)) (now (regs .exit))) [] ≡ scheduleOf (world t (now (mem .entry)) (now (regs .entry))) pid (now (block .entry)) ⌝ }
+pub fn schedule(t: Target, mem: &mut [u8], regs: &mut [u8], pid: u32, block: &[u8]) -> Done
+    ensures { λ r. ⌜ outcome (r .number) (r .answer) (world (r .target) (now (mem .exit)) (now (regs .exit))) [] ≡ scheduleOf house (world t (now (mem .entry)) (now (regs .entry))) pid (now (block .entry)) ⌝ }
 {
-    let d = steps::schedule_step(t, mem, regs, pid, block);
-    finish(t, d)
+    let mut none: [u8; 1] = [0; 1];
+    let e = steps::step(t, 3, mem, regs, pid, 0, block, &mut none[..]);
+    finish(t, e)
 }
 
 // The kernel gives a process another state.
-pub fn state(t: Target, mem: &[u8], regs: &[u8], pid: u32, value: u8) -> Done
-    ensures { λ r. ⌜ outcome (r .number) (r .answer) (world (r .target) (now (mem .entry)) (now (regs .entry))) [] ≡ stateOf (world t (now (mem .entry)) (now (regs .entry))) pid value ⌝ }
+pub fn state(t: Target, mem: &mut [u8], regs: &mut [u8], pid: u32, value: u8) -> Done
+    ensures { λ r. ⌜ outcome (r .number) (r .answer) (world (r .target) (now (mem .exit)) (now (regs .exit))) [] ≡ stateOf house (world t (now (mem .entry)) (now (regs .entry))) pid value ⌝ }
 {
-    let d = steps::state_step(t, mem, regs, pid, value);
-    finish(t, d)
+    let mut none: [u8; 1] = [0; 1];
+    let e = steps::step(t, 4, mem, regs, pid, value, &[0; 1], &mut none[..]);
+    finish(t, e)
 }
 
-// The record after a restart: no breakpoint, nothing in hand, none current, no mark, nobody Stopped.
-fn restarted(t: Target) -> Target
-    requires { ⌜ t .count ≤ 4 ⌝ }
-    ensures { λ r. ⌜ ((mem regs : List ℕ) → restartRule (world t mem regs) .after .target ≡ r) ⌝ }
+// The debug session begins anew.
+pub fn restart(t: Target, mem: &mut [u8], regs: &mut [u8], reply: &mut [u8]) -> Done
+    ensures { λ r. ⌜ outcome (r .number) (r .answer) (world (r .target) (now (mem .exit)) (now (regs .exit))) (now (reply .exit)) ≡ restartOf house (world t (now (mem .entry)) (now (regs .entry))) (now (reply .entry)) ⌝ }
 {
-    let mut u = t;
-    let n = t.count as usize;
-    let mut i: usize = 0;
-    while i < n {
-        let p = u.processes[i];
-        let state = if p.state == 8 { 2 } else { p.state };
-        u.processes[i] = Process {
-            pid: p.pid,
-            address: p.address,
-            state,
-            wanted: 0,
-        };
-        i += 1;
-    }
-    let table = Table::new();
-    u.selected = 0;
-    u.current = 0;
-    u.table = table;
-    u
-}
-
-// The debug session begins anew: every trap's plain bytes go back.
-pub fn restart(t: Target, mem: &mut [u8], regs: &[u8], reply: &mut [u8]) -> Done
-    ensures { λ r. ⌜ outcome (r .number) (r .answer) (world (r .target) (now (mem .exit)) (now (regs .entry))) (now (reply .exit)) ≡ restartOf (world t (now (mem .entry)) (now (regs .entry))) (now (reply .entry)) ⌝ }
-{
-    if !steps::sizes_right(t, mem.len(), regs.len()) {
-        return refused(2, t);
-    }
-    if reply.len() != 10 {
-        return refused(2, t);
-    }
-    let s = fit::check(t, mem);
-    if !s.fit {
-        return refused(3, t);
-    }
-    let sites = s.sites;
-    let plain = s.plain;
-    memory::restore(mem, &sites, &plain);
-    let after = restarted(t);
-    let bytes = wire::bytes_of(Message::Rerr {
-        reason: Reason::Reset,
-    });
-    steps::write_reply(bytes, reply);
-    refused(0, after)
+    let e = steps::step(t, 5, mem, regs, 0, 0, &[0; 1], reply);
+    finish(t, e)
 }

@@ -26,7 +26,7 @@ use Rattle.target.proofs.Target as target
 
 -- ---- the elements of an array, one of them
 
-each-at : (d : Type 0) (f : d → List Val → Fml) (xs : List d) (us : List Val) (i : ℕ) (z : d)
+pub each-at : (d : Type 0) (f : d → List Val → Fml) (xs : List d) (us : List Val) (i : ℕ) (z : d)
     → shadow (each d f xs us) → i < length xs → (u : Val) × shadow (f (getD xs i z) (u ∷ []))
 each-at d f [] us i z p h = absurd (not-suc-le-zero h)
 each-at d f (x ∷ xs) [] i z p h = absurd p

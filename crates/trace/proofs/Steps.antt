@@ -12,6 +12,7 @@ use Rattle.common.specs.Keys.{byKeys, among}
 use Rattle.common.proofs.Cases.{on-test, on-same}
 use Rattle.common.proofs.Lists.{part-to-end}
 use Rattle.fit.specs.Fit.{fitOf}
+use Rattle.memory.specs.Head.{house}
 use Rattle.rules.specs.Event.{restart}
 use Rattle.rules.specs.Outcome.{World, world, Outcome, outcome, refused, replied, error}
 use Rattle.rules.specs.Replies.{Handled, accepted, refusing, Checked, held, passed, request-checked, RightReply, replies}
@@ -36,12 +37,12 @@ unfolding refused
 checked-quiet (held n h) = refl
 checked-quiet (passed p) = handled-quiet p
 
-pub request-quiet : (w : World) (bytes reply : List ℕ) → requestOf w bytes reply .answer ≡ Nothing
-request-quiet w bytes reply = checked-quiet (request-checked w bytes reply)
+pub request-quiet : (w : World) (bytes reply : List ℕ) → requestOf house w bytes reply .answer ≡ Nothing
+request-quiet w bytes reply = checked-quiet (request-checked house w bytes reply)
 
-pub restart-quiet : (w : World) (reply : List ℕ) → restartOf w reply .answer ≡ Nothing
+pub restart-quiet : (w : World) (reply : List ℕ) → restartOf house w reply .answer ≡ Nothing
 unfolding restartOf checked refused restart replied
-restart-quiet w reply = go (sized w && eqb (length reply) 10) (fitOf (w .target) (w .mem))
+restart-quiet w reply = go (sized w && eqb (length reply) 10) (fitOf house (w .target) (w .mem))
   where
     go : (a b : Bool) → (cond a (cond b (restart w) (refused 3 w reply)) (refused 2 w reply)) .answer ≡ Nothing
     go false b = refl
@@ -69,22 +70,22 @@ module _ (o : Outcome) where
   three : o .reply ≡ [] → Short
   three e = rw e (omega (arith, length-answer (o .answer)))
 
-short : (t : Target) (mem : List ℕ) (e : Step) → RightReply e (stepOf t mem e) → Short (stepOf t mem e)
+short : (t : Target) (mem : List ℕ) (e : Step) → RightReply e (stepOf house t mem e) → Short (stepOf house t mem e)
 unfolding RightReply stepOf
 short t mem (request regs bytes reply) r =
     let w = world t mem regs in
-    ten (requestOf w bytes reply) (r .ten) (request-quiet w bytes reply)
-short t mem (trapEvent regs pid block) r = three (trapOf (world t mem regs) pid block) (r .none)
-short t mem (scheduleEvent regs pid block) r = three (scheduleOf (world t mem regs) pid block) (r .none)
-short t mem (stateEvent regs pid value) r = three (stateOf (world t mem regs) pid value) (r .none)
-short t mem (restartStep regs reply) r = let w = world t mem regs in ten (restartOf w reply) (r .ten) (restart-quiet w reply)
+    ten (requestOf house w bytes reply) (r .ten) (request-quiet w bytes reply)
+short t mem (trapEvent regs pid block) r = three (trapOf house (world t mem regs) pid block) (r .none)
+short t mem (scheduleEvent regs pid block) r = three (scheduleOf house (world t mem regs) pid block) (r .none)
+short t mem (stateEvent regs pid value) r = three (stateOf house (world t mem regs) pid value) (r .none)
+short t mem (restartStep regs reply) r = let w = world t mem regs in ten (restartOf house w reply) (r .ten) (restart-quiet w reply)
 
-pub shown-most : (t : Target) (mem : List ℕ) (e : Step) → length (shown (stepOf t mem e)) ≤ 11
+pub shown-most : (t : Target) (mem : List ℕ) (e : Step) → length (shown (stepOf house t mem e)) ≤ 11
 unfolding shown shownWith
 shown-most t mem e =
-    let o = stepOf t mem e in
+    let o = stepOf house t mem e in
     on-test (eqb (o .number) 0)
-    (λ h. rw h (omega (arith, short t mem e (replies t mem e (eqb-true (o .number) 0 h)))))
+    (λ h. rw h (omega (arith, short t mem e (replies house t mem e (eqb-true (o .number) 0 h)))))
     (λ h. rw h (omega arith))
 
 -- ---- the step of each kind
@@ -118,11 +119,11 @@ pub is-event : (kind : ℕ) → 2 ≤ kind → kind < 5 → (kind ≡ 2) ⊎ ((k
 is-event kind a b = on-same kind 2 inl λ x. on-same kind 3 (λ e. inr (inl e)) λ y. inr (inr (omega arith))
 
 module _ (w : World) (kind : ℕ) (body : List ℕ) where
-  pub is-request : kind ≡ 1 → requestOf w body (replicate 10 0) ≡ stepOn w kind body
+  pub is-request : kind ≡ 1 → requestOf house w body (replicate 10 0) ≡ stepOn w kind body
   unfolding stepOn encoded stepOf
   is-request k = rw k
 
-  pub is-restart : kind ≡ 5 → restartOf w (replicate 10 0) ≡ stepOn w kind body
+  pub is-restart : kind ≡ 5 → restartOf house w (replicate 10 0) ≡ stepOn w kind body
   unfolding stepOn encoded stepOf
   is-restart k = rw k
 
@@ -131,15 +132,15 @@ module _ (w : World) (kind : ℕ) (body : List ℕ) where
     part : take (length body - 4) (drop 4 body) ≡ drop 4 body
     part = part-to-end body 4 (length body) refl
 
-    pub is-trap : kind ≡ 2 → trapOf w pid (take (length body - 4) (drop 4 body)) ≡ stepOn w kind body
+    pub is-trap : kind ≡ 2 → trapOf house w pid (take (length body - 4) (drop 4 body)) ≡ stepOn w kind body
     unfolding stepOn encoded stepOf
     is-trap k = rw (k, p, part)
 
-    pub is-schedule : kind ≡ 3 → scheduleOf w pid (take (length body - 4) (drop 4 body)) ≡ stepOn w kind body
+    pub is-schedule : kind ≡ 3 → scheduleOf house w pid (take (length body - 4) (drop 4 body)) ≡ stepOn w kind body
     unfolding stepOn encoded stepOf
     is-schedule k = rw (k, p, part)
 
-    pub is-state : kind ≡ 4 → stateOf w pid (getD body 4 0) ≡ stepOn w kind body
+    pub is-state : kind ≡ 4 → stateOf house w pid (getD body 4 0) ≡ stepOn w kind body
     unfolding stepOn encoded stepOf
     is-state k = rw (k, p)
 

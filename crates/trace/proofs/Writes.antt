@@ -13,7 +13,7 @@ use Rattle.common.proofs.Lists.{copy-whole}
 use Rattle.common.proofs.Tab.{length-tab, tab-is}
 use Rattle.memory.specs.Write.{overwritten}
 use Rattle.memory.proofs.Parts.{put-over}
-use Rattle.memory_laws.specs.Bytes.{length-overwritten}
+use Rattle.memory.proofs.Bytes.{length-overwritten}
 use Rattle.trace.specs.Trace.{shownWith, Writes}
 
 -- they stand before the rest of it

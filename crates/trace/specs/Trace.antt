@@ -7,6 +7,7 @@ use lib.Dec.{leb, eqb}
 use lib.ListN.{length, getD, take, drop, replicate}
 use Rattle.common.specs.Bytes.{ofHighFirst}
 use Rattle.common.specs.Keys.{arm, byKeys}
+use Rattle.memory.specs.Head.{house}
 use Rattle.memory.specs.Write.{overwritten}
 use Rattle.rules.specs.Book.{Setup, Book, fed}
 use Rattle.rules.specs.Outcome.{World, world, Outcome, answerBytes}
@@ -42,7 +43,7 @@ encoded kind body regs =
     (cond (eqb kind 4) (stateEvent regs (pidOf body) (getD body 4 0)) (restartStep regs (replicate 10 0)))))
 
 unfoldable pub stepOn : World → ℕ → List ℕ → Outcome
-stepOn w kind body = stepOf (w .target) (w .mem) (encoded kind body (w .regs))
+stepOn w kind body = stepOf house (w .target) (w .mem) (encoded kind body (w .regs))
 
 -- "It writes the number, then ten bytes for 1 and 5 .. A step whose number is not 0 writes its number only"
 unfoldable pub shownWith : ℕ → List ℕ → List ℕ
@@ -108,7 +109,7 @@ runOf w input room = run (length input) w input room
 unfoldable pub bookOver : Setup → Book → Target → List ℕ → List Step → Book
 bookOver s b t mem [] = b
 bookOver s b t mem (e ∷ es) =
-    let o = stepOf t mem e in
+    let o = stepOf house t mem e in
     bookOver s (fed s b e (o .number) (o .answer) (o .reply)) (o .after .target) (o .after .mem) es
 
 -- ---- what the code gives

@@ -7,6 +7,7 @@ ghost use mathlib.Core.List.{List, []};
 ghost use mathlib.Core.Logic.{_⊎_};
 ghost use Prim.Native.Nat.{ℕ, _≤_};
 ghost use lib.ListN.{length};
+ghost use Rattle.memory.specs.Head.{house};
 ghost use Rattle.rules.specs.Book.{Setup, setupBy, opened, realBy};
 ghost use Rattle.rules.specs.Outcome.{world, outcome};
 ghost use Rattle.trace.specs.Trace.{bodyOf, pidOf, stepOn, shownReply, shownAnswer, Writes, Steps, Runs, runOf, bookOver};
@@ -132,10 +133,10 @@ fn step_with_reply(
 }
 
 // An event of the kernel: kind 2, 3 or 4.
-fn event(t: Target, mem: &[u8], regs: &mut [u8], kind: u8, body: &[u8]) -> Done
+fn event(t: Target, mem: &mut [u8], regs: &mut [u8], kind: u8, body: &[u8]) -> Done
     requires { ⌜ (kind ≡ 2) ⊎ ((kind ≡ 3) ⊎ (kind ≡ 4)) ⌝ }
     requires { ⌜ length (now body) ≡ bodyOf kind ⌝ }
-    ensures { λ r. ⌜ outcome (r .number) (r .answer) (world (r .target) (now (mem .entry)) (now (regs .exit))) [] ≡ stepOn (world t (now (mem .entry)) (now (regs .entry))) kind (now (body .entry)) ⌝ }
+    ensures { λ r. ⌜ outcome (r .number) (r .answer) (world (r .target) (now (mem .exit)) (now (regs .exit))) [] ≡ stepOn (world t (now (mem .entry)) (now (regs .entry))) kind (now (body .entry)) ⌝ }
 {
     let pid = pid_of(body);
     if kind == 2 {
@@ -178,7 +179,7 @@ fn step(
 // output has no room for a step.
 pub fn run(t: Target, mem: &mut [u8], regs: &mut [u8], input: &[u8], output: &mut [u8]) -> Ran
     ensures { λ r. ⌜ Runs (runOf (world t (now (mem .entry)) (now (regs .entry))) (now (input .entry)) (length (now (output .entry)))) r (now (mem .exit)) (now (regs .exit)) (now (output .entry)) (now (output .exit)) ⌝ }
-    ensures { λ r. ⌜ ((s : Setup) → setupBy s .number ≡ 0 → t ≡ setupBy s .after .target → now (mem .entry) ≡ s .mem → now (mem .exit) ≡ realBy s (bookOver s (opened s) t (s .mem) (runOf (world t (now (mem .entry)) (now (regs .entry))) (now (input .entry)) (length (now (output .entry))) .steps))) ⌝ }
+    ensures { λ r. ⌜ ((s : Setup) → setupBy s .number ≡ 0 → t ≡ setupBy s .after .target → now (mem .entry) ≡ s .mem → now (mem .exit) ≡ realBy house s (bookOver s (opened s) t (s .mem) (runOf (world t (now (mem .entry)) (now (regs .entry))) (now (input .entry)) (length (now (output .entry))) .steps))) ⌝ }
 {
     let mut u = t;
     let mut used: usize = 0;

@@ -1,7 +1,6 @@
 -- The message that ten bytes can be, before it is written again and compared: of a message's bytes it is that message, and of
 -- any bytes it fits its types. Each is one lemma over the kinds of message. Assumes nothing.
 use mathlib.Core.Path.{_≡_, refl, ap}
-use mathlib.Core.Bool.{Bool, true, false, cond}
 use mathlib.Core.List.{List, [], _∷_}
 use Prim.Native.Nat.{ℕ}
 use lib.Dec.{ltb}
@@ -10,11 +9,12 @@ use Rattle.common.specs.Bytes.{lowFirst, highFirst, Bytes}
 use Rattle.common.specs.Keys.{among, byKeys}
 use Rattle.common.specs.Text.{padded}
 use Rattle.common.proofs.Bytes.{high-round, high-fits, byte-at, bytes-picked}
+use Rattle.common.proofs.Cases.{either}
 use Rattle.common.proofs.Keys.{chosen}
 use Rattle.wire.specs.Codec.{candidateOf, candidateBy, replyOf, errorAt, firstWord, data4, data9}
 use Rattle.wire.specs.Kind.{kinds, kindOf}
 use Rattle.wire.specs.Message.{bytesOf, typeOf, fieldsOf, bytes4, bytes9}
-use Rattle.text.specs.Text.{reasons, reasonPlace}
+use Rattle.text.specs.Text.{reasonPlace}
 use Rattle.wire.specs.declared.Kind.{Kind}
 use Rattle.wire.specs.declared.Kind.the-variants as kind
 use Rattle.wire.specs.declared.Message.{Message}
@@ -22,7 +22,6 @@ use Rattle.wire.specs.declared.Message.the-variants.{Tmget, Tmput, Tproc, Tstat
 use Rattle.wire.specs.declared.Message.the-variants.{Rerr, Rmget, Rmput, Rproc, Rstatus, Rrnote, Rstop, Rstart, Rcondbreak}
 use Rattle.wire.specs.declared.Reading.{Reading}
 use Rattle.wire.specs.declared.Reading.the-variants.{Accepted, WrongSize, NoMessage}
-use Rattle.text.specs.declared.Reason.the-variants.{Reset}
 use Rattle.wire_laws.specs.Fields.{Word, Fits}
 use Rattle.wire_laws.specs.Texts.{reason-back, state-back, state-fits, address-back, address-fits}
 
@@ -62,11 +61,7 @@ Sound NoMessage = Unit
 
 error-sound : (k : ℕ) → Sound (errorAt k)
 unfolding errorAt Sound Fits
-error-sound k = by (ltb k 7)
-  where
-    by : (b : Bool) → Sound (cond b (Accepted (Rerr (getD reasons k Reset))) NoMessage)
-    by true = tt
-    by false = tt
+error-sound k = either Sound (ltb k 7) tt tt
 
 module _ (l : List ℕ) (b : Bytes l) where
   word-fits : Word (firstWord l)

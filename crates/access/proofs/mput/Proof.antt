@@ -1,16 +1,18 @@
 -- `access::mput` meets its contract: nothing is written where n is 0, else the place that the address names decides. Assumes nothing.
-use mathlib.Core.Path.{sym}
+use mathlib.Core.Path.{_≡_, sym, _∙_}
 use Prim.Native.Nat.{_+_, _≤_}
 use native.Mathlib.Omega.{arith}
 use denote.Ref.{now}
 use borrow.Author.Needs.{needs}
+use lib.ListN.{length, take}
 use lib.Seq.{length-take-le}
+use Rattle.memory.specs.declared.Place.the-variants.{Window}
 use Rattle.memory.proofs.Parts.{named, within-registers, within-window}
 use Rattle.rules.specs.Change.{applied}
-use Rattle.rules.specs.Outcome.{world}
-use Rattle.rules.specs.Request.{putTo}
+use Rattle.rules.specs.Outcome.{world, Outcome}
+use Rattle.rules.specs.Request.{putTo, mput}
 use Rattle.wire.specs.Message.{bytes4}
-use Rattle.access.proofs.Laws.{ready-listed, refuses, put-window, put-none, put-to}
+use Rattle.access.proofs.Laws.{ready-listed, refuses, put-window, put-same, two-each, sixteen, length-after, put-none, put-to}
 use Rattle.access.proofs.mput.Statement.{statement}
 use Rattle.access.proofs.mput.Tie as tie
 
@@ -86,11 +88,35 @@ write-requires c κs =
     let z = length-take-le (a .n) (bytes4 (a .d)) (s .pre .1) in
     omega (arith, s .pre .0 .memory)
 
-enum-told-3 : tie.Need-enum-told-3
-enum-told-3 c = search needs
+-- where the code has its reply, and where it starts, from where it has written
+abbrev replied : tie.After-write → tie.After-bytes-of
+replied p = p .before .before .before .before .before .before .before .before .before .before .before .before
 
-rerr-requires : tie.Need-rerr-requires
-rerr-requires c κs = search needs
+abbrev start : tie.After-write → tie.Start
+start p = replied p .before .before .before
+
+-- the window is the place that the address names
+to-window : (p : tie.After-write) → let a = start p .args in
+    let w = world (a .t) (now (a .mem)) (now (a .regs)) in
+    (x : Outcome) → x ≡ putTo Window w (a .addr) (take (a .n) (bytes4 (a .d))) → x ≡ mput w (a .addr) (a .n) (a .d)
+to-window p x h =
+    let e = p .before .before .before .before .before .before .before .before in
+    let k = e .before .before in
+    put-to _ _ _ _ (k .before .if1 .left) Window (named _ _ _ _ _ _ (k .place-of .ensures) (e .enum-told2 .given .1)) x h
+
+plain-sixteen : (p : tie.After-write) → 16 ≡ length (start p .args .s .plain)
+plain-sixteen p = let s = start p in sixteen (s .args .t) _ _ _ _ (s .good .0) (s .pre .0)
+
+slice-aggregate-equal : tie.Need-slice-aggregate-equal
+slice-aggregate-equal c = plain-sixteen (c .before .before .before .before)
+
+slice-aggregate-equal-2 : tie.Need-slice-aggregate-equal-2
+slice-aggregate-equal-2 c =
+    let p = c .before .before .before .before .before in
+    omega (arith, plain-sixteen p, length-after 2 _ _ _ _ _ (p .write .ensures .1))
+
+equal-requires : tie.Need-equal-requires
+equal-requires c κs = search needs
 
 with-requires-3 : tie.Need-with-requires-3
 with-requires-3 c κs = search needs
@@ -98,9 +124,35 @@ with-requires-3 c κs = search needs
 same-length : tie.Need-same-length
 same-length c = search needs
 
+-- no plain byte changed
 returns-2 : tie.Need-returns-2
 unfolding bytes4 applied
 returns-2 c =
+    let q = c .before .before in
+    let p = q .before .before .before .before .before .before in
+    let s = start p in
+    let a = s .args in
+    rw (c .with3 .ensures)
+    (to-window p _
+    (put-same (world (a .t) (now (a .mem)) (now (a .regs))) (a .addr) _ _ _ (s .pre .0 .sites) (s .pre .0 .plain) _ _ _
+    (p .write .ensures .0) (p .write .ensures .1) (replied p .bytes-of .ensures)
+    (two-each (a .t) _ (s .good .0)) (sym (q .equal .ensures) ∙ c .before .if2 .taken)))
+
+enum-told-3 : tie.Need-enum-told-3
+enum-told-3 c = search needs
+
+rerr-requires : tie.Need-rerr-requires
+rerr-requires c κs = search needs
+
+with-requires-4 : tie.Need-with-requires-4
+with-requires-4 c κs = search needs
+
+same-length-2 : tie.Need-same-length-2
+same-length-2 c = search needs
+
+returns-3 : tie.Need-returns-3
+unfolding bytes4 applied
+returns-3 c =
     let p = c .before .before .before in
     let e = p .before .before .before in
     let k = e .before .before in
@@ -109,27 +161,24 @@ returns-2 c =
     (put-to (world (a .t) (now (a .mem)) (now (a .regs))) (a .addr) (a .n) (a .d) (k .before .if1 .left) _
     (named _ _ _ _ _ _ (k .place-of .ensures) (e .enum-told .given .1)) _ (p .put-registers .ensures (now (a .mem))))
 
-same-length-2 : tie.Need-same-length-2
-same-length-2 c = search needs
-
-returns-3 : tie.Need-returns-3
-unfolding bytes4
-returns-3 c =
-    let p = c .before .before in
-    let e = p .before .before .before .before .before .before .before .before in
-    let k = e .before .before in
-    let s = k .before .before .before .before .before in
-    let a = s .args in
-    let w = world (a .t) (now (a .mem)) (now (a .regs)) in
-    put-to w (a .addr) (a .n) (a .d) (k .before .if1 .left) _ (named _ _ _ _ _ _ (k .place-of .ensures) (e .enum-told2 .given .1)) _
-    (put-window w (a .addr) _ _ _ (s .pre .0 .sites) (s .pre .0 .plain) _ _ _ (p .write .ensures .0) (p .write .ensures .1)
-    (k .before .before .bytes-of .ensures))
+same-length-3 : tie.Need-same-length-3
+same-length-3 c = search needs
 
 returns-4 : tie.Need-returns-4
-unfolding putTo applied
+unfolding bytes4
 returns-4 c =
+    let p = c .before .before .before .before .before .before .before in
+    let s = start p in
+    let a = s .args in
+    to-window p _
+    (put-window (world (a .t) (now (a .mem)) (now (a .regs))) (a .addr) _ _ _ (s .pre .0 .sites) (s .pre .0 .plain) _ _ _
+    (p .write .ensures .0) (p .write .ensures .1) (replied p .bytes-of .ensures))
+
+returns-5 : tie.Need-returns-5
+unfolding putTo applied
+returns-5 c =
     let k = c .before .before .before .before in
-    rw (c .with3 .ensures)
+    rw (c .with4 .ensures)
     (put-to _ _ _ _ (k .before .if1 .left) _
     (named _ _ _ _ _ _ (k .place-of .ensures) (c .before .before .enum-told3 .given .1)) _ (refuses _ _ _ (c .before .rerr .ensures)))
 
@@ -152,11 +201,17 @@ mput-spec =
     array-share-prefix-bytes-2
     slice-aggregate-write
     write-requires
-    enum-told-3
-    rerr-requires
+    slice-aggregate-equal
+    slice-aggregate-equal-2
+    equal-requires
     with-requires-3
     same-length
     returns-2
+    enum-told-3
+    rerr-requires
+    with-requires-4
     same-length-2
     returns-3
-    returns-4)
+    same-length-3
+    returns-4
+    returns-5)

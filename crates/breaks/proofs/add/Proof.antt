@@ -1,5 +1,5 @@
 -- `breaks::add` meets its contract: what `condition::add` answers chooses the arm of the definition. Assumes nothing.
-use mathlib.Core.Path.{_≡_, _∙_}
+use mathlib.Core.Path.{_≡_, ap, _∙_}
 use mathlib.Core.List.{List}
 use Prim.Native.Nat.{ℕ}
 use borrow.Author.Needs.{needs}
@@ -7,11 +7,14 @@ use borrow.Author.Tests.{eq-eqb}
 use Rattle.condition.specs.Add.{addOf}
 use Rattle.condition.specs.declared.Room.{Room}
 use Rattle.condition.specs.declared.Room.the-variants.{Fits, Full, Short}
-use Rattle.rules.specs.Change.{applied}
+use Rattle.rules.specs.Change.{grown, applied}
 use Rattle.rules.specs.Condition.{inHand, joined, addElement}
-use Rattle.rules.specs.Outcome.{world}
+use Rattle.rules.specs.Outcome.{world, replied}
+use Rattle.rules.specs.Record.{withDraft}
 use Rattle.target.specs.declared.Element.{Element}
-use Rattle.breaks.proofs.Laws.{add-joined}
+use Rattle.target.specs.declared.Draft.{Draft}
+use Rattle.wire.specs.declared.Message.the-variants.{Rcondbreak}
+use Rattle.breaks.proofs.Laws.{add-joined, fits-grown}
 use Rattle.breaks.proofs.add.Statement.{statement}
 use Rattle.breaks.proofs.add.Tie as tie
 
@@ -27,6 +30,10 @@ decided : (a : tie.After-add) (r : Room) → a .add .result .room ≡ r → (mem
     ≡ addElement (world (start a .args .t) mem regs) (element (start a))
 decided a r e mem regs =
     add-joined (world (start a .args .t) mem regs) (element (start a)) r (a .before .if1 .left) (rw (a .add .ensures) at e)
+
+fitted : (a : tie.After-add) → a .add .result .room ≡ Fits
+    → grown (start a .args .t .table .draft) (element (start a)) ≡ addOf (start a .args .t .table .draft) (element (start a)) .draft
+fitted a e = fits-grown (start a .args .t .table .draft) (element (start a)) (rw (a .add .ensures) at e)
 
 fail-requires : tie.Need-fail-requires
 fail-requires c κs = search needs
@@ -60,7 +67,10 @@ returns-2 : tie.Need-returns-2
 unfolding applied joined
 returns-2 c =
     let t = c .before in
-    λ mem regs. c .done .ensures _ mem regs ∙ decided (t .before .before) Fits (t .enum-told .given .1) mem regs
+    let a = t .before .before in
+    λ mem regs. c .done .ensures _ mem regs
+    ∙ ap (λ (d : Draft). replied Rcondbreak (world (withDraft (start a .args .t) d) mem regs)) (fitted a (t .enum-told .given .1))
+    ∙ decided a Fits (t .enum-told .given .1) mem regs
 
 returns-3 : tie.Need-returns-3
 unfolding joined

@@ -1,14 +1,15 @@
 -- `breaks::begin` meets its contract: the ids of the scan are the table's, so that each test decides as the definition's does.
 -- Assumes nothing.
-use mathlib.Core.Path.{_≡_, sym, _∙_}
+use mathlib.Core.Path.{_≡_, sym, ap, _∙_}
 use mathlib.Core.Bool.{cond}
 use mathlib.Core.List.{List}
 use Prim.Native.Nat.{ℕ, _≤_, _<_}
 use native.Mathlib.Omega.{arith}
 use borrow.Author.Needs.{needs}
 use borrow.Author.Tests.{lt-ltb, le-ltb, le-leb, lt-leb}
-use lib.Dec.{leb}
+use lib.Dec.{eqb, leb}
 use lib.ListN.{length}
+use Rattle.common.specs.First.{firstOf}
 use Rattle.common.proofs.First.{first-within}
 use Rattle.fit.specs.Fit.{entryOf}
 use Rattle.rules.specs.Change.{applied}
@@ -19,7 +20,8 @@ use Rattle.target.specs.Free.{isFree, firstFree}
 use Rattle.target.specs.declared.Target.{Target}
 use Rattle.wire.specs.declared.Message.the-variants.{Rcondbreak}
 use Rattle.text.specs.declared.Reason.the-variants.{Count, Inval}
-use Rattle.breaks.proofs.Laws.{shaped-of, id-found}
+use Rattle.scan.proofs.Laws.{first-free}
+use Rattle.breaks.proofs.Laws.{shaped-of, id-found, ids-small}
 use Rattle.breaks.proofs.begin.Statement.{statement}
 use Rattle.breaks.proofs.begin.Tie as tie
 
@@ -51,11 +53,21 @@ module _ (t : Target) (mem regs : List ℕ) (val : ℕ) (eight : length (t .tabl
 abbrev start : tie.After-entry-of → tie.Start
 start f = f .before .before .before .before .before .before
 
+-- and from where it has looked for a free entry
+abbrev whole : tie.After-entry-of2 → tie.Start
+whole f = start (f .before .before .before)
+
 found : (f : tie.After-entry-of) → f .entry-of .result ≡ entryOf (start f .args .t .table .entries) (start f .args .val)
 found f = let s = start f in f .entry-of .ensures ∙ id-found (s .args .t) _ _ _ (s .args .val) (s .pre)
 
 eight-at : (s : tie.Start) → length (s .args .t .table .entries) ≡ 8
 eight-at s = shaped-of (s .args .t) _ (s .good .0) .entries
+
+free : (f : tie.After-entry-of2) → f .entry-of2 .result ≡ firstFree (whole f .args .t .table .entries)
+free f =
+    let s = whole f in
+    let h = shaped-of (s .args .t) _ (s .good .0) in
+    f .entry-of2 .ensures ∙ ap (firstOf (eqb 256)) (s .pre .ids) ∙ first-free (s .args .t .table .entries) (ids-small (s .args .t) h)
 
 fail-requires : tie.Need-fail-requires
 fail-requires c κs = search needs
@@ -76,17 +88,18 @@ returns-2 c =
     let s = start f in
     c .fail2 .ensures _ _ _ ∙ used (s .args .t) _ _ (s .args .val) (eight-at s) (omega arith) (omega (arith, found f))
 
-first-free-requires : tie.Need-first-free-requires
-first-free-requires c κs = search needs
+entry-of-requires-2 : tie.Need-entry-of-requires-2
+entry-of-requires-2 c κs = search needs
 
 fail-requires-3 : tie.Need-fail-requires-3
 fail-requires-3 c κs = search needs
 
 returns-3 : tie.Need-returns-3
 returns-3 c =
-    let f = c .before .before .before .before .before in
+    let g = c .before .before in
+    let f = g .before .before .before in
     let s = start f in
-    c .fail3 .ensures _ _ _ ∙ full (s .args .t) _ _ (s .args .val) (eight-at s) (omega arith) (omega (arith, found f)) (omega arith)
+    c .fail3 .ensures _ _ _ ∙ full (s .args .t) _ _ (s .args .val) (eight-at s) (omega arith) (omega (arith, found f)) (omega (arith, free g))
 
 cast-id : tie.Need-cast-id
 cast-id c = search needs
@@ -98,10 +111,11 @@ returns-4 : tie.Need-returns-4
 unfolding applied
 returns-4 c =
     let e = c .before in
-    let f = e .before .before .before .before in
+    let g = e .before in
+    let f = g .before .before .before in
     let s = start f in
     c .done .ensures (s .args .t) _ _
-    ∙ begins (s .args .t) _ _ (s .args .val) (eight-at s) (omega arith) (omega (arith, found f)) (λ h. e .if3 .left (omega arith))
+    ∙ begins (s .args .t) _ _ (s .args .val) (eight-at s) (omega arith) (omega (arith, found f)) (λ h. e .if3 .left (omega (arith, free g)))
 
 pub begin-spec : {M : Type 1} → statement M
 begin-spec =
@@ -112,7 +126,7 @@ begin-spec =
     entry-of-requires
     fail-requires-2
     returns-2
-    first-free-requires
+    entry-of-requires-2
     fail-requires-3
     returns-3
     cast-id

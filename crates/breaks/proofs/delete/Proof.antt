@@ -1,7 +1,5 @@
--- `breaks::delete` meets its contract: the ids of the scan are the table's, and an entry that is found is used, so that
--- its site is in the window. Assumes nothing.
+-- `breaks::delete` meets its contract: the ids of the scan are the table's, and an entry that is found is used. Assumes nothing.
 use mathlib.Core.Path.{_≡_, ap, _∙_}
-use Prim.Native.Nat.{_<_}
 use native.Mathlib.Omega.{arith}
 use borrow.Author.Needs.{needs}
 use borrow.Author.Tests.{lt-ltb, le-ltb, le-leb, lt-leb}
@@ -10,11 +8,10 @@ use lib.ListN.{length}
 use Rattle.fit.specs.Fit.{entryOf}
 use Rattle.rules.specs.Change.{applied}
 use Rattle.rules.specs.Condition.{deleteBreakpoint}
-use Rattle.rules.specs.FitFacts.{facts-of}
 use Rattle.rules.specs.Found.{id-is-used}
 use Rattle.rules.specs.Outcome.{replied, error}
 use Rattle.wire.specs.declared.Message.the-variants.{Rcondbreak}
-use Rattle.breaks.proofs.Laws.{shaped-of, ready-good, id-found}
+use Rattle.breaks.proofs.Laws.{shaped-of, id-found}
 use Rattle.breaks.proofs.delete.Statement.{statement}
 use Rattle.breaks.proofs.delete.Tie as tie
 
@@ -48,10 +45,8 @@ put-back-requires c κs =
     let s = start f in
     let es = s .args .t .table .entries in
     let val = s .args .val in
-    let g = ready-good (s .args .t) _ _ _ _ (s .good .0) (s .pre) in
-    let k : entryOf es val < 8 = omega (arith, found f) in
-    let u = id-is-used es val (omega arith) (omega (arith, eight s)) in
-    record { below = t .if2 .taken; low = rw (found f) (facts-of _ _ g .used _ (k, u) .low) }
+    let u = id-is-used es val (omega arith) (omega (arith, found f, eight s)) in
+    record { traps = s .pre .sites; plain = s .pre .plain; below = t .if2 .taken; used = rw (found f) u }
 
 done-requires : tie.Need-done-requires
 done-requires c κs = search needs

@@ -1,30 +1,33 @@
--- `breaks::put_back` meets its contract: a shaped entry has two plain bytes, which are laid over its site. Assumes nothing.
-use native.Mathlib.Omega.{arith}
+-- `breaks::put_back` meets its contract: the scan's slot of a used entry has its offset and its two plain bytes. Assumes nothing.
 use borrow.Author.Needs.{needs}
 use Rattle.rules.specs.Breakpoint.{removed}
-use Rattle.breaks.proofs.Laws.{shape-at, two-bytes}
+use Rattle.breaks.proofs.Laws.{shaped-of, slot-site, slot-plain}
 use Rattle.breaks.proofs.put_back.Statement.{statement}
 use Rattle.breaks.proofs.put_back.Tie as tie
 
-mul-e : tie.Need-mul-e
-mul-e c = search needs
+mul-lay : tie.Need-mul-lay
+mul-lay c = search needs
 
-element-copy-out-e : tie.Need-element-copy-out-e
-element-copy-out-e c = search needs
+array-read-lay : tie.Need-array-read-lay
+array-read-lay c = search needs
 
-sub-at : tie.Need-sub-at
-sub-at c = search needs
+cast-lay : tie.Need-cast-lay
+cast-lay c = search needs
 
-cast-at : tie.Need-cast-at
-cast-at c =
-    let s = c .before .before .before .before in
-    omega (arith, shape-at (s .args .t) _ (s .args .k) (s .good .0) (s .pre .below) .site)
+mul-lay-2 : tie.Need-mul-lay-2
+mul-lay-2 c = search needs
 
-element-copy-out-lay : tie.Need-element-copy-out-lay
-element-copy-out-lay c = search needs
+array-read-lay-2 : tie.Need-array-read-lay-2
+array-read-lay-2 c = search needs
 
-element-copy-out-lay-2 : tie.Need-element-copy-out-lay-2
-element-copy-out-lay-2 c = search needs
+mul-lay-3 : tie.Need-mul-lay-3
+mul-lay-3 c = search needs
+
+add-lay : tie.Need-add-lay
+add-lay c = search needs
+
+array-read-lay-3 : tie.Need-array-read-lay-3
+array-read-lay-3 c = search needs
 
 lay-requires : tie.Need-lay-requires
 lay-requires c κs = search needs
@@ -36,20 +39,23 @@ returns : tie.Need-returns
 unfolding removed
 returns c =
     let l = c .before .before in
-    let s = l .before .before .before .before .before .before .before .before in
-    let e = shape-at (s .args .t) _ (s .args .k) (s .good .0) (s .pre .below) in
-    λ regs. rw (l .lay .ensures, ← two-bytes _ (e .plain))
+    let s = l .before .before .before .before .before in
+    let a = s .args in
+    let h = shaped-of (a .t) _ (s .good .0) in
+    λ regs. rw (l .lay .ensures, slot-site (a .t) (a .s) (a .k) h (s .pre), slot-plain (a .t) (a .s) (a .k) h (s .pre))
 
 pub put-back-spec : {M : Type 1} → statement M
 put-back-spec =
     tie.close
     (tie.spec
-    mul-e
-    element-copy-out-e
-    sub-at
-    cast-at
-    element-copy-out-lay
-    element-copy-out-lay-2
+    mul-lay
+    array-read-lay
+    cast-lay
+    mul-lay-2
+    array-read-lay-2
+    mul-lay-3
+    add-lay
+    array-read-lay-3
     lay-requires
     same-length
     returns)

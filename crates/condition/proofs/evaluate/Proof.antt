@@ -1,30 +1,56 @@
 -- `condition::evaluate` meets its contract. The loop's invariant: the truth is that of the elements from place i on, over the
 -- stack, which has room for an element more. Assumes nothing.
-use mathlib.Core.Path.{_≡_}
-use Prim.Native.Nat.{_≤_, _-_, _+_}
+use mathlib.Core.Path.{_≡_, refl, ap, _∙_}
+use mathlib.Core.Bool.{true, false}
+use mathlib.Core.List.{List}
+use Prim.Native.Nat.{ℕ, _<_, _≤_, _-_, _+_}
 use native.Mathlib.Omega.{arith}
 use borrow.Author.Needs.{needs}
-use lib.ListN.{length}
-use Rattle.condition.specs.Evaluate.{fetchOf}
-use Rattle.condition.specs.Stack.{live}
-use Rattle.condition.proofs.Truth.{Remains, remains-all, remains-more, remains-out, remains-none}
+use lib.ListN.{length, getD, drop, set, length-set}
+use Rattle.memory.specs.Head.{house}
+use Rattle.target.specs.Fresh.{noElement}
+use Rattle.target.specs.declared.Element.{Element}
+use Rattle.condition.specs.Evaluate.{top, fetchOf}
+use Rattle.condition.specs.declared.Fetched.{Fetched}
+use Rattle.condition.proofs.Cells.{pushed}
+use Rattle.condition.proofs.Truth.{given, given-by, got-outside, got-inside, got-stack, Remains, remains-all, remains-more, remains-out, remains-none}
 use Rattle.condition.proofs.evaluate.Statement.{statement}
 use Rattle.condition.proofs.evaluate.Tie as tie
 
 abbrev Inv-loop : tie.InvT-loop
-Inv-loop mem base sites plain pid count elements n s₀ i₀ s i =
-    (n ≤ 16) × (i ≤ n) × (16 ≤ s .at + i) × (s .at ≤ 17) × (length elements ≡ 16)
-    × Remains (fetchOf sites plain mem base) pid elements n i (live s)
+Inv-loop mem base sites plain pid count elements n cells₀ at₀ i₀ cells at i =
+    (n ≤ 16) × (i ≤ n) × (16 ≤ at + i) × (at ≤ 16) × (length elements ≡ 16) × (length cells ≡ 17)
+    × Remains (fetchOf house sites plain mem base) pid elements n i (drop at cells)
 
 abbrev μ-loop : tie.MeasureT-loop
-μ-loop mem base sites plain pid count elements n s₀ i₀ s i = n - i
+μ-loop mem base sites plain pid count elements n cells₀ at₀ i₀ cells at i = n - i
 
-new-requires : tie.Need-new-requires Inv-loop μ-loop
-new-requires c κs = tt
+-- where the value of an element is known: the loop's head, and the element
+abbrev head : tie.After-value-of Inv-loop μ-loop → tie.At-loop Inv-loop μ-loop
+head v = v .before .before .before .before .before .before .before .before
+
+abbrev start : tie.After-value-of Inv-loop μ-loop → tie.Start Inv-loop μ-loop
+start v = head v .before .before
+
+abbrev element : tie.After-value-of Inv-loop μ-loop → Element
+element v = getD (start v .args .t6) (head v .loop .i) noElement
+
+abbrev read : tie.After-value-of Inv-loop μ-loop → ℕ → Fetched
+read v = let a = start v .args in fetchOf house (a .sites .now) (a .plain .now) (a .mem .now) (a .base)
+
+abbrev stack : tie.After-value-of Inv-loop μ-loop → List ℕ
+stack v = drop (head v .loop .at) (head v .loop .cells)
+
+known : (v : tie.After-value-of Inv-loop μ-loop)
+    → v .value-of .result ≡ given (read v) (start v .args .pid) (element v .letter) (element v .value) (stack v)
+known v =
+    let b = v .before .before in
+    let y = b .before .before .top-at .ensures in
+    let x = v .before .top-at2 .ensures ∙ ap top (b .below .ensures .3 _ (head v .loop .inv .5)) in
+    v .value-of .ensures ∙ given-by (read v) (start v .args .pid) (element v .letter) (element v .value) (stack v) _ _ x y
 
 loop-holds : tie.Need-loop-holds Inv-loop μ-loop
-loop-holds c =
-    (c .before .before .pre, search needs, omega arith, omega arith, search needs, remains-all _ _ _ _ _ (c .new .ensures .0))
+loop-holds c = (c .before .pre, omega arith, omega arith, omega arith, search needs, search needs, remains-all _ _ _ _ _ refl)
 
 mul-e : tie.Need-mul-e Inv-loop μ-loop
 mul-e c = omega arith
@@ -32,15 +58,42 @@ mul-e c = omega arith
 array-copy-out-e : tie.Need-array-copy-out-e Inv-loop μ-loop
 array-copy-out-e c = omega arith
 
-advance-requires : tie.Need-advance-requires Inv-loop μ-loop
-advance-requires c κs = (omega arith, omega arith)
+top-at-requires : tie.Need-top-at-requires Inv-loop μ-loop
+top-at-requires c κs = search needs
+
+below-requires : tie.Need-below-requires Inv-loop μ-loop
+below-requires c κs = search needs
+
+top-at-requires-2 : tie.Need-top-at-requires-2 Inv-loop μ-loop
+top-at-requires-2 c κs = search needs
+
+value-of-requires : tie.Need-value-of-requires Inv-loop μ-loop
+value-of-requires c κs = search needs
+
+enum-known-found : tie.Need-enum-known-found Inv-loop μ-loop
+enum-known-found c = search needs
+
+enum-told : tie.Need-enum-told Inv-loop μ-loop
+enum-told c = search needs
 
 returns : tie.Need-returns Inv-loop μ-loop
 returns c =
-    let a = c .before in
-    let t = a .before .before in
-    let o = t .before .loop .inv in
-    remains-out _ _ _ _ _ (omega arith) _ (o .5) _ (t .loop-test .taken) (a .advance .ensures .out) (c .if1 .taken)
+    let v = c .before .before in
+    let o = head v .loop .inv in
+    let q = got-outside (read v) (start v .args .pid) (element v .letter) (element v .value) (stack v) _ (known v) (c .enum-told .given .1) in
+    remains-out _ _ _ _ _ (omega arith) _ (o .6) true (v .before .before .before .before .before .before .before .loop-test .taken) q refl
+
+without-requires : tie.Need-without-requires Inv-loop μ-loop
+without-requires c κs = (omega arith, omega arith)
+
+sub-at : tie.Need-sub-at Inv-loop μ-loop
+sub-at c = omega arith
+
+mul-cells : tie.Need-mul-cells Inv-loop μ-loop
+mul-cells c = omega arith
+
+array-write-cells : tie.Need-array-write-cells Inv-loop μ-loop
+array-write-cells c = omega arith
 
 add-i : tie.Need-add-i Inv-loop μ-loop
 add-i c = omega arith
@@ -50,26 +103,33 @@ loop-less c = omega arith
 
 loop-again : tie.Need-loop-again Inv-loop μ-loop
 loop-again c =
-    let f = c .before .if1 .left in
-    let a = c .before .before in
-    let v = a .advance .ensures in
-    let t = a .before .before in
-    let o = t .before .loop .inv in (
+    let v = c .before .before .before .before in
+    let o = head v .loop .inv in
+    let cells = head v .loop .cells in
+    let from = c .without .result in
+    let g = c .before .before .found .given .1 in
+    let word : ℕ = c .before .before .found .given .0 .0 in
+    let a = start v .args in
+    let e = element v in (
       o .0,
       omega arith,
-      omega (arith, v .low),
-      v .high,
+      omega arith,
+      omega arith,
       o .4,
-      remains-more _ _ _ _ _ (omega arith) _ (o .5) _ (t .loop-test .taken) (v .out) _ f (v .next f),
+      length-set cells (from - 1) word ∙ o .5,
+      remains-more _ _ _ _ _ (omega arith) _ (o .6) false (v .before .before .before .before .before .before .before .loop-test .taken)
+          (got-inside (read v) (a .pid) (e .letter) (e .value) (stack v) _ (known v) word g) _ refl
+          (got-stack (read v) (a .pid) (e .letter) (e .value) (stack v) _ (known v) word g _ (drop from cells)
+          (c .without .ensures .2 cells (o .5)) (pushed cells from 17 (o .5) word (omega arith) (omega arith))),
     )
 
-top-requires : tie.Need-top-requires Inv-loop μ-loop
-top-requires c κs = tt
+top-at-requires-3 : tie.Need-top-at-requires-3 Inv-loop μ-loop
+top-at-requires-3 c κs = search needs
 
 returns-2 : tie.Need-returns-2 Inv-loop μ-loop
 returns-2 c =
-    let o = c .before .before .loop .inv in
-    remains-none _ _ _ _ _ (omega arith) _ (o .5) _ (c .before .loop-test .left) (c .top .ensures)
+    let o = c .before .before .before .loop .inv in
+    remains-none _ _ _ _ _ (omega arith) _ (o .6) _ (c .before .before .loop-test .left) (c .top-at3 .ensures)
 
 pub evaluate-spec : {M : Type 1} → statement M
 evaluate-spec =
@@ -77,14 +137,22 @@ evaluate-spec =
     (tie.spec
     Inv-loop
     μ-loop
-    new-requires
     loop-holds
     mul-e
     array-copy-out-e
-    advance-requires
+    top-at-requires
+    below-requires
+    top-at-requires-2
+    value-of-requires
+    enum-known-found
+    enum-told
     returns
+    without-requires
+    sub-at
+    mul-cells
+    array-write-cells
     add-i
     loop-less
     loop-again
-    top-requires
+    top-at-requires-3
     returns-2)

@@ -1,5 +1,5 @@
 -- `control::start` meets its contract: the tests decide as whether the pid is listed, its process Stopped, and a breakpoint
--- at its saved pc; a fit record has the site of that one in the window. Assumes nothing.
+-- at its saved pc, whose entry is used. Assumes nothing.
 use mathlib.Core.Path.{_≡_, _∙_}
 use Prim.Native.Nat.{_<_, _≤_}
 use native.Mathlib.Omega.{arith}
@@ -8,7 +8,7 @@ use lib.ListN.{length}
 use Rattle.rules.specs.Change.{applied}
 use Rattle.rules.specs.Request.{start}
 use Rattle.target.proofs.Shape.{table-entries, target-table}
-use Rattle.control.proofs.Laws.{replies, unlisted, when-not, facts, start-none, start-one, site-low}
+use Rattle.control.proofs.Laws.{replies, unlisted, when-not, facts, start-none, start-one, used-at}
 use Rattle.control.proofs.start.Statement.{statement}
 use Rattle.control.proofs.start.Tie as tie
 
@@ -87,7 +87,12 @@ put-back-requires c κs =
     let a = c .before .before in
     let s = a .before .before .before .before .before .before .before .before .before .before .before .before .before in
     let k : a .breakpoint-at .result < 8 = c .before .if3 .left in
-    record { below = k; low = site-low (s .args .t) _ _ _ (s .pre .fit) (eight s) (a .breakpoint-at .ensures) k }
+    record {
+      traps = s .pre .sites;
+      plain = s .pre .plain;
+      below = k;
+      used = used-at (s .args .t .table .entries) _ _ (eight s) (a .breakpoint-at .ensures) k;
+    }
 
 with-requires-3 : tie.Need-with-requires-3
 with-requires-3 c κs = search needs

@@ -22,11 +22,17 @@ loop-holds : tie.Need-loop-holds Inv-loop μ-loop
 unfolding every
 loop-holds c = (c .pre, omega arith, refl)
 
-mul-p : tie.Need-mul-p Inv-loop μ-loop
-mul-p c = omega arith
+mul-mark-fit : tie.Need-mul-mark-fit Inv-loop μ-loop
+mul-mark-fit c = omega arith
 
-array-copy-out-p : tie.Need-array-copy-out-p Inv-loop μ-loop
-array-copy-out-p c = omega arith
+element-copy-out-mark-fit : tie.Need-element-copy-out-mark-fit Inv-loop μ-loop
+element-copy-out-mark-fit c = omega arith
+
+mul-mark-fit-2 : tie.Need-mul-mark-fit-2 Inv-loop μ-loop
+mul-mark-fit-2 c = omega arith
+
+element-copy-out-mark-fit-2 : tie.Need-element-copy-out-mark-fit-2 Inv-loop μ-loop
+element-copy-out-mark-fit-2 c = omega arith
 
 mark-fit-requires : tie.Need-mark-fit-requires Inv-loop μ-loop
 mark-fit-requires c κs = search needs
@@ -35,7 +41,7 @@ returns : tie.Need-returns Inv-loop μ-loop
 unfolding marksFit
 returns c =
     sym
-    (every-fails _ _ _ (c .before .before .before .loop-test .taken)
+    (every-fails _ _ _ (c .before .before .loop-test .taken)
     (answered-no _ _ (c .before .mark-fit .ensures) (c .if1 .taken)))
 
 add-i : tie.Need-add-i Inv-loop μ-loop
@@ -46,7 +52,7 @@ loop-less c = omega arith
 
 loop-again : tie.Need-loop-again Inv-loop μ-loop
 loop-again c =
-    let o = c .before .before .before .before .loop .inv in
+    let o = c .before .before .before .loop .inv in
     (o .0, omega arith, every-more _ _ (o .2) (answered-yes _ _ (c .before .mark-fit .ensures) (c .if1 .left)))
 
 returns-2 : tie.Need-returns-2 Inv-loop μ-loop
@@ -62,8 +68,10 @@ marks-fit-spec =
     Inv-loop
     μ-loop
     loop-holds
-    mul-p
-    array-copy-out-p
+    mul-mark-fit
+    element-copy-out-mark-fit
+    mul-mark-fit-2
+    element-copy-out-mark-fit-2
     mark-fit-requires
     returns
     add-i

@@ -27,11 +27,11 @@ abbrev μ-loop : tie.MeasureT-loop
 loop-holds : tie.Need-loop-holds Inv-loop μ-loop
 loop-holds c = (c .pre, search needs, length-take-le _ _ (omega arith), begin _ _)
 
-mul-p : tie.Need-mul-p Inv-loop μ-loop
-mul-p c = omega arith
+mul-if2 : tie.Need-mul-if2 Inv-loop μ-loop
+mul-if2 c = omega arith
 
-array-copy-out-p : tie.Need-array-copy-out-p Inv-loop μ-loop
-array-copy-out-p c = omega arith
+element-copy-out-if2 : tie.Need-element-copy-out-if2 Inv-loop μ-loop
+element-copy-out-if2 c = omega arith
 
 add-k : tie.Need-add-k Inv-loop μ-loop
 add-k c = omega arith
@@ -41,8 +41,8 @@ loop-less c = omega arith
 
 loop-again : tie.Need-loop-again Inv-loop μ-loop
 loop-again c =
-    let o = c .before .before .before .before .loop in
-    let h : o .k < c .before .before .before .before .before .args .count = omega arith in (
+    let o = c .before .before .loop in
+    let h : o .k < c .before .before .before .args .count = omega arith in (
       o .inv .0,
       omega arith,
       o .inv .2,
@@ -58,8 +58,8 @@ returns c =
 returns-2 : tie.Need-returns-2 Inv-loop μ-loop
 unfolding processOf
 returns-2 c =
-    let o = c .before .before .before .before .loop in
-    let h : o .k < c .before .before .before .before .before .args .count = omega arith in
+    let o = c .before .before .loop in
+    let h : o .k < c .before .before .before .args .count = omega arith in
     stop _ _ noProcess _ _ (o .inv .2) h (ap (has _) (getD-take _ _ _ noProcess h) ∙ eq-eqb _ _ (c .if2 .taken)) (o .inv .3)
 
 pub process-of-spec : {M : Type 1} → statement M
@@ -69,8 +69,8 @@ process-of-spec =
     Inv-loop
     μ-loop
     loop-holds
-    mul-p
-    array-copy-out-p
+    mul-if2
+    element-copy-out-if2
     add-k
     loop-less
     loop-again

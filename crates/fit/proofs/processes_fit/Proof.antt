@@ -1,21 +1,22 @@
--- `fit::processes_fit` meets its contract. The loop's invariant: the pid at every place before i is fit. Assumes nothing.
-use mathlib.Core.Path.{_≡_, refl}
+-- `fit::processes_fit` meets its contract. The loop's invariant: the pid at every place before i is fit, and the array holds
+-- these pids. Assumes nothing.
+use mathlib.Core.Path.{_≡_, refl, _∙_}
 use mathlib.Core.Bool.{true}
 use Prim.Native.Nat.{_≤_, _-_}
 use native.Mathlib.Omega.{arith}
-use borrow.Author.Tests.{le-leb, lt-leb}
+use borrow.Author.Tests.{le-leb, lt-leb, not-true, not-false}
 use Rattle.common.specs.Every.{every}
 use Rattle.common.proofs.Every.{every-more}
 use Rattle.fit.specs.Fit.{pidFit, processesFit}
-use Rattle.fit.proofs.Laws.{answered-yes, answered-no, pids-unfit, pids-fit}
+use Rattle.fit.proofs.Laws.{filled-none, filled-set, Seen, pid-zero, pid-by, pids-unfit, pids-fit}
 use Rattle.fit.proofs.processes_fit.Statement.{statement}
 use Rattle.fit.proofs.processes_fit.Tie as tie
 
 abbrev Inv-loop : tie.InvT-loop
-Inv-loop ps count n i₀ i = (i ≤ n) × (every i (pidFit ps) ≡ true)
+Inv-loop count ps n pids₀ i₀ pids i = (i ≤ n) × (every i (pidFit ps) ≡ true) × Seen ps i pids
 
 abbrev μ-loop : tie.MeasureT-loop
-μ-loop ps count n i₀ i = n - i
+μ-loop count ps n pids₀ i₀ pids i = n - i
 
 returns : tie.Need-returns Inv-loop μ-loop
 unfolding processesFit
@@ -27,16 +28,34 @@ returns-2 c = rw (le-leb _ _ (c .before .if1 .left), lt-leb _ _ (c .if2 .taken))
 
 loop-holds : tie.Need-loop-holds Inv-loop μ-loop
 unfolding every
-loop-holds c = (omega arith, refl)
+loop-holds c = (omega arith, refl, filled-none 4 _ 0)
 
-pid-fit-requires : tie.Need-pid-fit-requires Inv-loop μ-loop
-pid-fit-requires c κs = omega arith
+mul-pid : tie.Need-mul-pid Inv-loop μ-loop
+mul-pid c = omega arith
+
+element-copy-out-pid : tie.Need-element-copy-out-pid Inv-loop μ-loop
+element-copy-out-pid c = omega arith
 
 returns-3 : tie.Need-returns-3 Inv-loop μ-loop
 returns-3 c =
-    let o = c .before .before .before .before in
-    pids-unfit _ _ (o .before .if1 .left) (o .if2 .left) _ (c .before .before .loop-test .taken)
-    (answered-no _ _ (c .before .pid-fit .ensures) (c .if3 .taken))
+    let o = c .before .before .before in
+    pids-unfit _ _ (o .before .if1 .left) (o .if2 .left) _ (c .before .loop-test .taken) (pid-zero _ _ (c .if3 .taken))
+
+pid-free-requires : tie.Need-pid-free-requires Inv-loop μ-loop
+pid-free-requires c κs = omega arith
+
+returns-4 : tie.Need-returns-4 Inv-loop μ-loop
+returns-4 c =
+    let f = c .before .before .before in
+    let l = f .before .before in
+    pids-unfit _ _ (l .before .before .if1 .left) (l .before .if2 .left) _ (f .before .loop-test .taken)
+    (pid-by _ _ _ (l .loop .inv .2) (f .if3 .left) _ (c .before .pid-free .ensures) ∙ not-true _ (c .if4 .taken))
+
+mul-pids : tie.Need-mul-pids Inv-loop μ-loop
+mul-pids c = omega arith
+
+array-write-pids : tie.Need-array-write-pids Inv-loop μ-loop
+array-write-pids c = omega arith
 
 add-i : tie.Need-add-i Inv-loop μ-loop
 add-i c = omega arith
@@ -45,13 +64,16 @@ loop-less : tie.Need-loop-less Inv-loop μ-loop
 loop-less c = omega arith
 
 loop-again : tie.Need-loop-again Inv-loop μ-loop
-loop-again c = (
-  omega arith,
-  every-more _ _ (c .before .before .before .loop .inv .1) (answered-yes _ _ (c .before .pid-fit .ensures) (c .if3 .left)),
-)
+loop-again c =
+    let f = c .before .before .before in
+    let o = f .before .before .loop .inv in (
+      omega arith,
+      every-more _ _ (o .1) (pid-by _ _ _ (o .2) (f .if3 .left) _ (c .before .pid-free .ensures) ∙ not-false _ (c .if4 .left)),
+      filled-set (o .2) (omega arith) _ refl,
+    )
 
-returns-4 : tie.Need-returns-4 Inv-loop μ-loop
-returns-4 c =
+returns-5 : tie.Need-returns-5 Inv-loop μ-loop
+returns-5 c =
     let o = c .before .before in
     pids-fit _ _ (o .before .if1 .left) (o .if2 .left) _ (c .loop-test .left) (c .before .loop .inv .0) (c .before .loop .inv .1)
 
@@ -64,9 +86,14 @@ processes-fit-spec =
     returns
     returns-2
     loop-holds
-    pid-fit-requires
+    mul-pid
+    element-copy-out-pid
     returns-3
+    pid-free-requires
+    returns-4
+    mul-pids
+    array-write-pids
     add-i
     loop-less
     loop-again
-    returns-4)
+    returns-5)

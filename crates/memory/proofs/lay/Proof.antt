@@ -2,7 +2,7 @@
 -- Assumes nothing.
 use mathlib.Core.Path.{_≡_, refl, sym, _∙_}
 use mathlib.Core.List.{List, [], _∷_}
-use Prim.Native.Nat.{ℕ, _+_, _-_, _%_, _<_, _≤_}
+use Prim.Native.Nat.{ℕ, _+_, _-_, _%_, _<_}
 use native.Mathlib.Omega.{arith}
 use borrow.Author.Needs.{needs}
 use denote.Ref.{now}
@@ -10,7 +10,7 @@ use lib.ListN.{length, getD, set, length-set}
 use lib.Seq.{getD-set-same, getD-set-other, set-out}
 use Rattle.memory.specs.Overlay.{siteOver, laidOver}
 use Rattle.common.proofs.Cases.{on-same}
-use Rattle.memory.proofs.Laws.{laid-nowhere, laid-is}
+use Rattle.memory.proofs.Bytes.{laid-one}
 use Rattle.memory.proofs.lay.Statement.{statement}
 use Rattle.memory.proofs.lay.Tie as tie
 
@@ -18,28 +18,23 @@ module _ (mem : List ℕ) (s b0 b1 : ℕ) where
   -- over no offset: odd, or past the end
   none : (s % 2 ≡ 0 → s < length mem → ⊥) → mem ≡ laidOver (b0 ∷ b1 ∷ []) (s ∷ []) mem
   unfolding siteOver
-  none h = laid-nowhere (b0 ∷ b1 ∷ []) s mem (λ i l e. h (omega arith) (omega arith))
+  none h = sym (laid-one (b0 ∷ b1 ∷ []) s mem mem refl (λ i l e. absurd (h (omega arith) (omega arith))) (λ i l n. refl))
 
   both : s % 2 ≡ 0 → set (set mem s b0) (s + 1) b1 ≡ laidOver (b0 ∷ b1 ∷ []) (s ∷ []) mem
-  both h =
-      laid-is (b0 ∷ b1 ∷ []) s mem (set (set mem s b0) (s + 1) b1) 2 refl (omega arith) h (simp length-set)
-      (λ i l a b. on-same i s (first i l) (λ n. second i l (omega arith)))
-      other
+  unfolding siteOver
+  both h = sym (laid-one (b0 ∷ b1 ∷ []) s mem (set (set mem s b0) (s + 1) b1) (simp length-set) here away)
     where
-      other : (i : ℕ) → i < length mem → (s ≤ i → i < s + 2 → ⊥) → getD (set (set mem s b0) (s + 1) b1) i 0 ≡ getD mem i 0
-      other i l n =
-          getD-set-other (set mem s b0) (s + 1) i b1 0 (λ e. n (omega arith) (omega arith))
-          ∙ getD-set-other mem s i b0 0 (λ e. n (omega arith) (omega arith))
+      here : (i : ℕ) → i < length mem → i - i % 2 ≡ s → getD (set (set mem s b0) (s + 1) b1) i 0 ≡ getD (b0 ∷ b1 ∷ []) (i % 2) 0
+      here i l e = on-same i s
+          (λ q. let z : i % 2 ≡ 0 = omega arith in
+          rw (z, q) (getD-set-other (set mem s b0) (s + 1) s b1 0 (λ n. omega arith) ∙ getD-set-same mem s b0 0 (omega arith)))
+          (λ n. let z : i % 2 ≡ 1 = omega arith in
+          let q : i ≡ s + 1 = omega arith in
+          rw (z, q) (getD-set-same (set mem s b0) (s + 1) b1 0 (simp length-set (omega arith))))
 
-      first : (i : ℕ) → i < length mem → i ≡ s → getD (set (set mem s b0) (s + 1) b1) i 0 ≡ getD (b0 ∷ b1 ∷ []) (i - s) 0
-      first i l e =
-          let z : i - s ≡ 0 = omega arith in
-          rw (z, e) (getD-set-other (set mem s b0) (s + 1) s b1 0 (λ q. omega arith) ∙ getD-set-same mem s b0 0 (omega arith))
-
-      second : (i : ℕ) → i < length mem → i ≡ s + 1 → getD (set (set mem s b0) (s + 1) b1) i 0 ≡ getD (b0 ∷ b1 ∷ []) (i - s) 0
-      second i l e =
-          let z : i - s ≡ 1 = omega arith in
-          rw (z, e) (getD-set-same (set mem s b0) (s + 1) b1 0 (simp length-set (omega arith)))
+      away : (i : ℕ) → i < length mem → (i - i % 2 ≡ s → ⊥) → getD (set (set mem s b0) (s + 1) b1) i 0 ≡ getD mem i 0
+      away i l n =
+          getD-set-other (set mem s b0) (s + 1) i b1 0 (λ e. n (omega arith)) ∙ getD-set-other mem s i b0 0 (λ e. n (omega arith))
 
 returns : tie.Need-returns
 returns c = none _ _ _ _ (λ e l. c .if1 .taken e)

@@ -5,7 +5,8 @@ use native.Mathlib.Omega.{arith}
 use borrow.Author.Needs.{needs}
 use lib.ListN.{List·getD-eq-default}
 use denote.Ref.{now}
-use Rattle.memory.proofs.Laws.{plain-under, plain-free}
+use Rattle.memory.proofs.Slots.{slot-covers, slot-none}
+use Rattle.memory.proofs.Bytes.{plain-under, plain-bare}
 use Rattle.memory.proofs.plain_at.Statement.{statement}
 use Rattle.memory.proofs.plain_at.Tie as tie
 
@@ -25,8 +26,9 @@ returns : tie.Need-returns
 returns c =
     let s = c .before .before .slot-of in
     let a = c .before .before .before .before .before .args in
-    rw (mul-comm 2 (s .result))
-    (plain-under 2 (now (a .sites)) (a .at) (s .result) (s .ensures) (now (a .plain)) (now (a .mem)) (omega arith))
+    rw (mul-comm 2 (s .result), s .ensures)
+    (sym (plain-under 2 (now (a .sites)) (now (a .plain)) (now (a .mem)) (a .at)
+    (slot-covers 2 (now (a .sites)) (a .at) (omega (arith, s .ensures)))))
 
 shared-slice-read-result : tie.Need-shared-slice-read-result
 shared-slice-read-result c = search needs
@@ -34,13 +36,14 @@ shared-slice-read-result c = search needs
 returns-2 : tie.Need-returns-2
 returns-2 c =
     let s = c .before .before .before .slot-of in
-    plain-free 2 _ _ (s .result) (s .ensures) _ _ (omega arith)
+    sym (plain-bare 2 _ _ _ _ (slot-none 2 _ _ (omega (arith, s .ensures))))
 
 returns-3 : tie.Need-returns-3
 returns-3 c =
     let s = c .before .before .slot-of in
     let a = c .before .before .before .before .before .args in
-    sym (List·getD-eq-default (now (a .mem)) 0 {n = a .at} (c .if2 .left)) ∙ plain-free 2 _ _ (s .result) (s .ensures) _ _ (omega arith)
+    sym (plain-bare 2 _ _ _ _ (slot-none 2 _ _ (omega (arith, s .ensures)))
+    ∙ List·getD-eq-default (now (a .mem)) 0 {n = a .at} (c .if2 .left))
 
 pub plain-at-spec : {M : Type 1} → statement M
 plain-at-spec =

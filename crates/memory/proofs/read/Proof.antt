@@ -1,24 +1,25 @@
 -- `memory::read` meets its contract. The loop's invariant: the first j bytes are the part's, those under traps plain,
 -- the others zeros. Assumes nothing.
-use mathlib.Core.Path.{_≡_, refl, ap, _∙_}
+use mathlib.Core.Path.{_≡_, refl, sym, ap, _∙_}
 use mathlib.Core.Logic.{⊎-elim}
-use Prim.Native.Nat.{_-_, _≤_}
+use Prim.Native.Nat.{_+_, _-_, _≤_}
 use native.Mathlib.Nat.{mul-comm}
 use native.Mathlib.Omega.{arith}
 use borrow.Author.Needs.{needs}
 use denote.Ref.{now}
-use lib.ListN.{length, length-set}
-use Rattle.common.specs.Tab.{tab}
+use lib.ListN.{length, getD, length-set}
 use Rattle.memory.specs.Write.{partRead}
-use Rattle.memory.proofs.Laws.{upTo, up-more, up-all}
-use Rattle.memory.proofs.Parts.{partAt, part-under, part-free}
+use Rattle.common.proofs.Fill.{filled, fill-none, fill-more, fill-whole}
+use Rattle.memory.proofs.Slots.{slot-covers, slot-none}
+use Rattle.memory.proofs.Bytes.{byte-under, byte-bare}
+use Rattle.memory.proofs.Parts.{partAt}
 use Rattle.memory.proofs.read.Statement.{statement}
 use Rattle.memory.proofs.read.Tie as tie
 
 abbrev Inv-loop : tie.InvT-loop
 Inv-loop part sites plain at all kept from out₀ j₀ out j =
     (j ≤ 9) × (j ≤ length part) × (from ≤ 4294967297) × (length sites ≡ 8) × (length plain ≡ 16) × (length out ≡ 9)
-    × (out ≡ upTo (partAt 2 sites plain part from) j 9)
+    × (out ≡ filled (partAt 2 sites plain part from) (λ _. 0) j 9)
 
 abbrev μ-loop : tie.MeasureT-loop
 μ-loop part sites plain at all kept from out₀ j₀ out j = 9 - j
@@ -27,8 +28,7 @@ near-requires : tie.Need-near-requires Inv-loop μ-loop
 near-requires c κs = search needs
 
 loop-holds : tie.Need-loop-holds Inv-loop μ-loop
-unfolding tab
-loop-holds c = (omega arith, omega arith, c .near .ensures .0, search needs, search needs, refl, refl)
+loop-holds c = (omega arith, omega arith, c .near .ensures .0, search needs, search needs, refl, fill-none _ 0 9)
 
 returns : tie.Need-returns Inv-loop μ-loop
 unfolding partRead
@@ -72,7 +72,9 @@ loop-again c =
     let o = l .loop in
     let i = o .inv in
     let a = l .before .before .before .before .before .args in
-    let f = l .before .near .result in
+    let s = now (a .sites) in
+    let at = l .before .near .result + o .j in
+    let old = getD (now (a .part)) (o .j) 0 in
     let k = c .before .slot-of .result in
     let q = c .before .slot-of .ensures in
     ⊎-elim
@@ -83,7 +85,7 @@ loop-again c =
       i .3,
       i .4,
       ap length (w .2) ∙ simp length-set (i .5),
-      w .2 ∙ rw (i .6, mul-comm 2 k, part-under 2 (now (a .sites)) (now (a .plain)) (now (a .part)) f (o .j) k q (omega arith)) (up-more _ _ 9),
+      w .2 ∙ rw (i .6, mul-comm 2 k, q, ← byte-under 2 s (now (a .plain)) at old (slot-covers 2 s at (omega arith))) (fill-more _ _ _ 9),
     ))
     (λ w. (
       omega arith,
@@ -92,7 +94,7 @@ loop-again c =
       i .3,
       i .4,
       ap length (w .2) ∙ simp length-set (i .5),
-      w .2 ∙ rw (i .6, part-free 2 (now (a .sites)) (now (a .plain)) (now (a .part)) f (o .j) k q (omega arith)) (up-more _ _ 9),
+      w .2 ∙ rw (i .6, ← byte-bare 2 s (now (a .plain)) at old (slot-none 2 s at (omega arith))) (fill-more _ _ _ 9),
     ))
     (c .if2 .came)
 
@@ -100,7 +102,7 @@ returns-2 : tie.Need-returns-2 Inv-loop μ-loop
 unfolding partRead
 returns-2 c =
     let o = c .before .loop .inv in
-    rw (← c .before .before .near .ensures .1 _ _) (o .6 ∙ up-all _ _ 9 _ (omega arith) (omega arith))
+    rw (← c .before .before .near .ensures .1 _ _) (o .6 ∙ fill-whole _ _ _ 9 (omega arith) ∙ sym (fill-whole _ _ _ 9 (omega arith)))
 
 pub read-spec : {M : Type 1} → statement M
 read-spec =

@@ -1,12 +1,13 @@
 -- `memory::restore` meets its contract. The loop's invariant: memory is plain memory of the slots from k on. Assumes nothing.
 use mathlib.Core.Path.{_≡_, refl, _∙_}
 use mathlib.Core.List.{List, [], _∷_}
-use Prim.Native.Nat.{ℕ, zero, suc, _+_, _-_, _*_, _<_, _≤_}
-use native.Mathlib.Nat.{mul-comm, add-zero}
+use Prim.Native.Nat.{ℕ, _+_, _-_, _*_, _<_, _≤_}
+use native.Mathlib.Nat.{mul-comm}
 use native.Mathlib.Omega.{arith}
 use borrow.Author.Needs.{needs}
 use denote.Ref.{now}
 use lib.ListN.{length, getD, drop}
+use Rattle.common.proofs.Tab.{pair-at}
 use Rattle.memory.specs.Overlay.{plainOf, laidOver}
 use Rattle.memory.proofs.Laws.{plain-past, plain-from}
 use Rattle.memory.proofs.restore.Statement.{statement}
@@ -64,12 +65,8 @@ turn : (sites plain mem₀ mem : List ℕ) (k n : ℕ) → k + 1 ≡ n → k < l
     ≡ plainOf 2 (drop k sites) (drop (k * 2) plain) mem₀
 turn sites plain mem₀ mem k n z h e =
     rw (e, ← z, mul-comm 2 k)
-    (plain-from 2 (omega arith) (getD plain (k * 2) 0 ∷ getD plain (k * 2 + 1) 0 ∷ []) refl mem₀ sites plain k h bytes)
-  where
-    bytes : (r : ℕ) → r < 2 → getD (getD plain (k * 2) 0 ∷ getD plain (k * 2 + 1) 0 ∷ []) r 0 ≡ getD plain (k * 2 + r) 0
-    bytes zero l = rw add-zero
-    bytes (suc zero) l = refl
-    bytes (suc (suc r)) l = absurd (omega arith)
+    (plain-from (getD plain (k * 2) 0 ∷ getD plain (k * 2 + 1) 0 ∷ []) mem₀ (omega arith) sites plain k h
+    (λ r l. pair-at (λ p. getD plain p 0) (k * 2) 0 r l))
 
 loop-again : tie.Need-loop-again Inv-loop μ-loop
 loop-again c =

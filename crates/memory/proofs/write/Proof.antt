@@ -10,7 +10,8 @@ use denote.Ref.{now}
 use lib.ListN.{length, take, length-set}
 use lib.Seq.{take-all}
 use Rattle.memory.specs.Write.{memAfter, plainAfter}
-use Rattle.memory.proofs.Laws.{mem-none, mem-free, mem-under, plain-none, plain-stays, plain-takes}
+use Rattle.memory.proofs.Slots.{slot-covers, slot-none}
+use Rattle.memory.proofs.Laws.{mem-none, mem-stored, mem-kept, plain-none, plain-stored, plain-kept}
 use Rattle.memory.proofs.write.Statement.{statement}
 use Rattle.memory.proofs.write.Tie as tie
 
@@ -65,6 +66,7 @@ loop-again c =
     let a = c .before .before .before .before .before .before .before .before .args in
     let s = now (a .sites) in
     let b = now (a .bytes) in
+    let at = a .at + o .j in
     let t = c .before .before .loop-test .taken in
     let k = c .before .slot-of .result in
     let q = c .before .slot-of .ensures in
@@ -76,8 +78,9 @@ loop-again c =
       i .3,
       ap length (w .2) ∙ i .4,
       ap length (w .3) ∙ simp length-set (i .5),
-      w .2 ∙ i .6 ∙ mem-under 2 s (now (a .mem)) (a .at) b (o .j) t k q (omega arith),
-      w .3 ∙ rw (i .7, mul-comm 2 k) (plain-takes 2 s (now (a .plain)) (a .at) (omega arith) (omega arith) b (o .j) t k q (omega arith)),
+      w .2 ∙ i .6 ∙ mem-kept 2 s (now (a .mem)) (a .at) b (o .j) t (slot-covers 2 s at (omega arith)),
+      w .3 ∙ rw (i .7, mul-comm 2 k, q)
+          (plain-stored 2 s (now (a .plain)) (a .at) (omega arith) (omega arith) b (o .j) t (slot-covers 2 s at (omega arith))),
     ))
     (λ w. (
       omega arith,
@@ -86,8 +89,8 @@ loop-again c =
       i .3,
       ap length (w .2) ∙ simp length-set (i .4),
       ap length (w .3) ∙ i .5,
-      w .2 ∙ rw (i .6) (mem-free 2 s (now (a .mem)) (a .at) b (o .j) t k q (omega arith)),
-      w .3 ∙ i .7 ∙ plain-stays 2 s (now (a .plain)) (a .at) (omega arith) (omega arith) b (o .j) t k q (omega arith),
+      w .2 ∙ rw (i .6) (mem-stored 2 s (now (a .mem)) (a .at) b (o .j) t (slot-none 2 s at (omega arith))),
+      w .3 ∙ i .7 ∙ plain-kept 2 s (now (a .plain)) (a .at) (omega arith) (omega arith) b (o .j) t (slot-none 2 s at (omega arith)),
     ))
     (c .if1 .came)
 

@@ -9,6 +9,7 @@ use borrow.Author.Needs.{needs}
 use borrow.Author.Tests.{leb-true}
 use denote.Enum.Declared.{tagOf}
 use lib.Dec.{leb}
+use Rattle.memory.specs.Head.{house}
 use Rattle.access.proofs.Laws.{ready-listed}
 use Rattle.common.specs.Keys.{among}
 use Rattle.common.proofs.Keys.{among-yes}
@@ -38,7 +39,7 @@ few c = ready-listed _ _ _ _ (c .pre .0) .few
 
 -- every message but the eight requests; a tag is the variant's place
 others : (w : World) (m : Message)
-    → among (8 ∷ 9 ∷ 10 ∷ 11 ∷ 12 ∷ 13 ∷ 14 ∷ 15 ∷ 16 ∷ []) (tagOf the-type m) ≡ true → error Inval w ≡ serve w m
+    → among (8 ∷ 9 ∷ 10 ∷ 11 ∷ 12 ∷ 13 ∷ 14 ∷ 15 ∷ 16 ∷ []) (tagOf the-type m) ≡ true → error Inval w ≡ serve house w m
 unfolding among serve
 others w (Tmget addr n) e = true-or-false e
 others w (Tmput addr n d) e = true-or-false e

@@ -1,10 +1,11 @@
--- `stub::request` meets its contract: the change that the step gives is made. Assumes nothing.
+-- `stub::request` meets its contract: it is the step of its kind, with the change made. Assumes nothing.
 use borrow.Author.Needs.{needs}
+use Rattle.steps.specs.Kinds.{stepBy}
 use Rattle.stub.proofs.request.Statement.{statement}
 use Rattle.stub.proofs.request.Tie as tie
 
-request-step-requires : tie.Need-request-step-requires
-request-step-requires c κs = search needs
+step-requires : tie.Need-step-requires
+step-requires c κs = search needs
 
 finish-requires : tie.Need-finish-requires
 finish-requires c κs = search needs
@@ -19,15 +20,10 @@ same-length-3 : tie.Need-same-length-3
 same-length-3 c = search needs
 
 returns : tie.Need-returns
-returns c = rw (c .finish .ensures) (c .before .before .before .before .before .before .before .request-step .ensures)
+unfolding stepBy
+returns c = rw (c .finish .ensures) (c .before .before .before .before .before .before .before .step .ensures)
 
 pub request-spec : {M : Type 1} → statement M
 request-spec =
     tie.close
-    (tie.spec
-    request-step-requires
-    finish-requires
-    same-length
-    same-length-2
-    same-length-3
-    returns)
+    (tie.spec step-requires finish-requires same-length same-length-2 same-length-3 returns)

@@ -1,16 +1,42 @@
--- `stub::state` meets its contract: the change that the step gives is made. Assumes nothing.
+-- `stub::state` meets its contract: it is the step of its kind, with the change made and no reply. Assumes nothing.
 use borrow.Author.Needs.{needs}
+use Rattle.memory.specs.Head.{house}
+use Rattle.rules.specs.Replies.{state-checked}
+use Rattle.steps.specs.Kinds.{stepBy}
+use Rattle.stub.proofs.Laws.{no-reply}
 use Rattle.stub.proofs.state.Statement.{statement}
 use Rattle.stub.proofs.state.Tie as tie
 
-state-step-requires : tie.Need-state-step-requires
-state-step-requires c κs = search needs
+slice-aggregate-step : tie.Need-slice-aggregate-step
+slice-aggregate-step c = search needs
+
+slice-aggregate-step-2 : tie.Need-slice-aggregate-step-2
+slice-aggregate-step-2 c = search needs
+
+step-requires : tie.Need-step-requires
+step-requires c κs = search needs
 
 finish-requires : tie.Need-finish-requires
 finish-requires c κs = search needs
 
+same-length : tie.Need-same-length
+same-length c = search needs
+
+same-length-2 : tie.Need-same-length-2
+same-length-2 c = search needs
+
 returns : tie.Need-returns
-returns c = rw (c .finish .ensures) (c .before .state-step .ensures)
+unfolding stepBy
+returns c = rw (c .finish .ensures) (no-reply _ _ _ _ _ _ _ _ (c .before .before .before .before .before .before .step .ensures) (state-checked house _ _ _))
 
 pub state-spec : {M : Type 1} → statement M
-state-spec = tie.close (tie.spec state-step-requires finish-requires returns)
+state-spec =
+    tie.close
+    (tie.spec
+    slice-aggregate-step
+    slice-aggregate-step-2
+    step-requires
+    finish-requires
+    same-length
+    same-length-2
+    returns)

@@ -1,10 +1,17 @@
--- `stub::trap` meets its contract: the change that the step gives is made. Assumes nothing.
+-- `stub::trap` meets its contract: it is the step of its kind, with the change made and no reply. Assumes nothing.
 use borrow.Author.Needs.{needs}
+use Rattle.memory.specs.Head.{house}
+use Rattle.rules.specs.Replies.{trap-checked}
+use Rattle.steps.specs.Kinds.{stepBy}
+use Rattle.stub.proofs.Laws.{no-reply}
 use Rattle.stub.proofs.trap.Statement.{statement}
 use Rattle.stub.proofs.trap.Tie as tie
 
-trap-step-requires : tie.Need-trap-step-requires
-trap-step-requires c κs = search needs
+slice-aggregate-step : tie.Need-slice-aggregate-step
+slice-aggregate-step c = search needs
+
+step-requires : tie.Need-step-requires
+step-requires c κs = search needs
 
 finish-requires : tie.Need-finish-requires
 finish-requires c κs = search needs
@@ -12,8 +19,14 @@ finish-requires c κs = search needs
 same-length : tie.Need-same-length
 same-length c = search needs
 
+same-length-2 : tie.Need-same-length-2
+same-length-2 c = search needs
+
 returns : tie.Need-returns
-returns c = rw (c .finish .ensures) (c .before .before .before .trap-step .ensures)
+unfolding stepBy
+returns c = rw (c .finish .ensures) (no-reply _ _ _ _ _ _ _ _ (c .before .before .before .before .before .before .step .ensures) (trap-checked house _ _ _))
 
 pub trap-spec : {M : Type 1} → statement M
-trap-spec = tie.close (tie.spec trap-step-requires finish-requires same-length returns)
+trap-spec =
+    tie.close
+    (tie.spec slice-aggregate-step step-requires finish-requires same-length same-length-2 returns)

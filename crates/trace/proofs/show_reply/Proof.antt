@@ -5,7 +5,7 @@ use native.Mathlib.Omega.{arith}
 use borrow.Author.Needs.{needs}
 use denote.Ref.{now}
 use lib.ListN.{length}
-use Rattle.memory_laws.specs.Bytes.{length-overwritten}
+use Rattle.memory.proofs.Bytes.{length-overwritten}
 use Rattle.trace.proofs.Writes.{writes-stored, writes-copied, shown-refused}
 use Rattle.trace.proofs.show_reply.Statement.{statement}
 use Rattle.trace.proofs.show_reply.Tie as tie

@@ -34,7 +34,7 @@ same-length-3 c = search needs
 returns : tie.Need-returns
 returns c =
     let h = c .before .before .before in
-    let k = h .before .before .before .before in
+    let k = h .before .before .before .before .before .before in
     steps-answer _ _ _ _ _ _ _ _ (k .event .ensures) (h .show-answer .ensures)
 
 same-length-4 : tie.Need-same-length-4

@@ -59,7 +59,7 @@ same-length-6 c = search needs
 returns-2 : tie.Need-returns-2
 returns-2 c =
     let h = c .before .before .before in
-    let k = h .before .before .before .before .before in
+    let k = h .before .before .before .before .before .before .before in
     let i = k .before .before .before .before in
     let s = i .before .before .before .before .before in
     let a = s .args in

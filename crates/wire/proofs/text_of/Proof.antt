@@ -1,19 +1,19 @@
 -- `wire::text_of` meets its contract: what follows the type is the list of its nine elements. Assumes nothing.
 use borrow.Author.Needs.{needs}
-use mathlib.Core.Path.{_≡_, sym}
+use mathlib.Core.Path.{_≡_, sym, _∙_}
 use mathlib.Core.List.{List}
 use Prim.Native.Nat.{ℕ, _+_}
 use native.Mathlib.Omega.{arith}
-use lib.ListN.{length, drop, length-drop, getD}
-use lib.Seq.{getD-drop}
+use lib.ListN.{length, drop, getD}
 use denote.Ref.{now}
 use Rattle.common.specs.Tab.{tab}
-use Rattle.common.proofs.Tab.{tab-is}
+use Rattle.common.proofs.Lists.{part-to-end}
+use Rattle.common.proofs.Tab.{tab-part}
 use Rattle.wire.proofs.text_of.Statement.{statement}
 use Rattle.wire.proofs.text_of.Tie as tie
 
 after-type : (l : List ℕ) → length l ≡ 10 → drop 1 l ≡ tab 9 (λ i. getD l (1 + i) 0)
-after-type l h = tab-is (drop 1 l) 9 _ 0 (simp length-drop (omega arith)) (λ i g. getD-drop 1 l i 0)
+after-type l h = sym (part-to-end l 1 10 h) ∙ tab-part l 0 1 9 (omega arith)
 
 shared-slice-read-t3 : tie.Need-shared-slice-read-t3
 shared-slice-read-t3 c = search needs

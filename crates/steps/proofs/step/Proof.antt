@@ -1,0 +1,198 @@
+-- `steps::step` meets its contract: each refusal is the definition's, in its order, then each arm is the step of its kind. Assumes nothing.
+use mathlib.Core.Path.{_≡_, sym, _∙_}
+use mathlib.Core.Bool.{true}
+use borrow.Author.Needs.{needs}
+use borrow.Author.Tests.{not-false}
+use denote.Ref.{now}
+use lib.ListN.{length}
+use Rattle.memory.specs.Head.{house}
+use Rattle.events.proofs.Laws.{refuses}
+use Rattle.rules.specs.Outcome.{World, world}
+use Rattle.rules.specs.Ready.{Ready}
+use Rattle.steps.specs.Kinds.{lentRight}
+use Rattle.steps.proofs.Laws.{ready-by, few, lent-request, lent-trap, lent-schedule, lent-restart, wrong-size, wrong-lent, unfit}
+use Rattle.steps.proofs.Laws.{leaves, takes-request, takes-trap, takes-schedule, takes-state, takes-restart}
+use Rattle.steps.proofs.step.Statement.{statement}
+use Rattle.steps.proofs.step.Tie as tie
+
+-- where the code starts, from where the sizes of memory and register area are tested
+abbrev start : tie.After-sizes-right → tie.Start
+start z = z .before .before .before .before .before
+
+-- and where they are found right, from where the record is
+abbrev sized : tie.After-struct-known → tie.Else1
+sized k = k .before .before .before .before .before
+
+lent : (k : tie.After-struct-known)
+    → let a = start (sized k .before) .args in lentRight (a .kind) (length (now (a .input))) (length (now (a .reply))) ≡ true
+lent k = let l = k .before .before .before in sym (l .before .lent-right .ensures) ∙ not-false _ (l .if2 .left)
+
+ready : (q : tie.Else3)
+    → let a = start (sized (q .before) .before) .args in Ready house (a .t) (q .before .before .check .result) (now (a .mem)) (now (a .regs))
+ready q =
+    let z = sized (q .before) in
+    let a = start (z .before) .args in
+    ready-by (world (a .t) (now (a .mem)) (now (a .regs))) _ (z .before .sizes-right .ensures) (z .if1 .left) _
+    (q .before .before .check .ensures) (q .if3 .left)
+
+sizes-right-requires : tie.Need-sizes-right-requires
+sizes-right-requires c κs = search needs
+
+keeping-requires : tie.Need-keeping-requires
+keeping-requires c κs = search needs
+
+returns : tie.Need-returns
+returns c =
+    let z = c .before in
+    refuses _ _ _ 2 (c .keeping .ensures) ∙ wrong-size _ _ _ _ _ _ _ (z .before .sizes-right .ensures) (z .if1 .taken)
+
+lent-right-requires : tie.Need-lent-right-requires
+lent-right-requires c κs = search needs
+
+keeping-requires-2 : tie.Need-keeping-requires-2
+keeping-requires-2 c κs = search needs
+
+returns-2 : tie.Need-returns-2
+returns-2 c =
+    let l = c .before in
+    refuses _ _ _ 2 (c .keeping2 .ensures) ∙ wrong-lent _ _ _ _ _ _ _ (l .before .lent-right .ensures) (l .if2 .taken)
+
+check-requires : tie.Need-check-requires
+check-requires c κs = search needs
+
+keeping-requires-3 : tie.Need-keeping-requires-3
+keeping-requires-3 c κs = search needs
+
+same-length : tie.Need-same-length
+same-length c = search needs
+
+returns-3 : tie.Need-returns-3
+returns-3 c =
+    let k = c .before .before in
+    let z = sized k in
+    refuses _ _ _ 3 (c .keeping3 .ensures)
+    ∙ unfit _ _ _ _ _ _ (lent k) _ (z .before .sizes-right .ensures) (z .if1 .left) _ (k .before .check .ensures) (c .before .if3 .taken)
+
+request-requires : tie.Need-request-requires
+request-requires c κs =
+    let m = c .before .before .before in
+    (ready (m .before), lent-request _ _ _ (lent (m .before .before)) (m .match .keys1))
+
+trap-requires : tie.Need-trap-requires
+trap-requires c κs =
+    let m = c .before .before in
+    (ready (m .before), lent-trap _ _ _ (lent (m .before .before)) (m .match .keys2))
+
+schedule-requires : tie.Need-schedule-requires
+schedule-requires c κs =
+    let m = c .before in
+    let ok = ready (m .before) in
+    (few _ _ _ _ ok, ok .registers, lent-schedule _ _ _ (lent (m .before .before)) (m .match .keys3))
+
+state-requires : tie.Need-state-requires
+state-requires c κs = few _ _ _ _ (ready (c .before))
+
+restart-requires : tie.Need-restart-requires
+restart-requires c κs =
+    let m = c .before .before .before in
+    (ready (m .before), lent-restart _ _ _ (lent (m .before .before)) (m .match .rest))
+
+same-length-2 : tie.Need-same-length-2
+same-length-2 c = search needs
+
+same-length-3 : tie.Need-same-length-3
+same-length-3 c = search needs
+
+same-length-4 : tie.Need-same-length-4
+same-length-4 c = search needs
+
+returns-4 : tie.Need-returns-4
+returns-4 c =
+    let r = c .before .before .before .before .before .before in
+    let m = r .before .before .before .before in
+    r .request .ensures ∙ takes-request _ _ _ _ _ _ (lent (m .before .before)) _ (ready (m .before)) (m .match .keys1)
+
+same-length-5 : tie.Need-same-length-5
+same-length-5 c = search needs
+
+same-length-6 : tie.Need-same-length-6
+same-length-6 c = search needs
+
+returns-5 : tie.Need-returns-5
+returns-5 c =
+    let r = c .before .before in
+    let m = r .before .before .before in
+    leaves _ _ _ _ _ _ (r .trap .ensures) ∙ takes-trap _ _ _ _ _ _ (lent (m .before .before)) _ (ready (m .before)) (m .match .keys2)
+
+same-length-7 : tie.Need-same-length-7
+same-length-7 c = search needs
+
+same-length-8 : tie.Need-same-length-8
+same-length-8 c = search needs
+
+returns-6 : tie.Need-returns-6
+returns-6 c =
+    let r = c .before .before in
+    let m = r .before .before in
+    leaves _ _ _ _ _ _ (r .schedule .ensures _)
+    ∙ takes-schedule _ _ _ _ _ _ (lent (m .before .before)) _ (ready (m .before)) (m .match .keys3)
+
+same-length-9 : tie.Need-same-length-9
+same-length-9 c = search needs
+
+returns-7 : tie.Need-returns-7
+returns-7 c =
+    let m = c .before in
+    leaves _ _ _ _ _ _ (c .state .ensures _ _)
+    ∙ takes-state _ _ _ _ _ _ (lent (m .before .before)) _ (ready (m .before)) (m .match .keys4)
+
+same-length-10 : tie.Need-same-length-10
+same-length-10 c = search needs
+
+same-length-11 : tie.Need-same-length-11
+same-length-11 c = search needs
+
+same-length-12 : tie.Need-same-length-12
+same-length-12 c = search needs
+
+returns-8 : tie.Need-returns-8
+returns-8 c =
+    let r = c .before .before .before .before in
+    let m = r .before .before .before .before in
+    r .restart .ensures ∙ takes-restart _ _ _ _ _ _ (lent (m .before .before)) _ (ready (m .before)) (m .match .rest)
+
+pub step-spec : {M : Type 1} → statement M
+step-spec =
+    tie.close
+    (tie.spec
+    sizes-right-requires
+    keeping-requires
+    returns
+    lent-right-requires
+    keeping-requires-2
+    returns-2
+    check-requires
+    keeping-requires-3
+    same-length
+    returns-3
+    request-requires
+    trap-requires
+    schedule-requires
+    state-requires
+    restart-requires
+    same-length-2
+    same-length-3
+    same-length-4
+    returns-4
+    same-length-5
+    same-length-6
+    returns-5
+    same-length-7
+    same-length-8
+    returns-6
+    same-length-9
+    returns-7
+    same-length-10
+    same-length-11
+    same-length-12
+    returns-8)
