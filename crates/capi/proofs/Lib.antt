@@ -1,4 +1,2 @@
-mod Lent
-mod PassOn
-mod Stores
-mod ThinWhole
+pub mod PassOn
+pub mod ThinWhole

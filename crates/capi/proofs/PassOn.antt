@@ -41,8 +41,8 @@ use denote.Exit.{yes}
 use Rattle.target.specs.declared.Target.{Target}
 use Rattle.target.proofs.Target as T
 use Rattle.target.proofs.Target.Laws as T′
-use Rattle.capi.proofs.Lent.{Rel, lent, slice, record-ref, spelled, record-slot, bytes, kept, given, goes-record, goes-bytes, goes-read, goes-u8, goes-u32}
-use Rattle.capi.proofs.step as step
+use Rattle.lent.proofs.Lent.{Rel, lent, slice, record-ref, spelled, record-slot, bytes, kept, given, goes-record, goes-bytes, goes-read, goes-u8, goes-u32}
+use Rattle.lent.proofs.step as step
 use Rattle.capi.proofs.sanirvoq_step_request as f
 
 -- the record and the `&mut` slices are given up, and the rest stays

@@ -39,10 +39,10 @@ use denote.Exit.{yes}
 use Rattle.target.specs.declared.Target.{Target}
 use Rattle.target.proofs.Target as T
 use Rattle.target.proofs.Target.Laws as T′
-use Rattle.parts.specs.declared.Whole.{Whole}
-use Rattle.parts.proofs.Whole as D
-use Rattle.parts.proofs.Whole.Laws as D′
-use Rattle.parts.proofs.setup as inner
+use Rattle.results.specs.declared.Whole.{Whole}
+use Rattle.results.proofs.Whole as D
+use Rattle.results.proofs.Whole.Laws as D′
+use Rattle.results.proofs.setup as inner
 use Rattle.capi.proofs.sanirvoq_step_setup as f
 
 abbrev stayed : Stays (f.ended .signature .params) (f.ended .kept)

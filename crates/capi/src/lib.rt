@@ -1,21 +1,17 @@
 // The steps for kernels in C and Rust, over a record that the caller owns. include/sanirvoq.h is the same for C.
 //
 // Every exported step has one form: the record, the memory, the register area, a pid, a byte, an input and a reply. What a step does
-// not use it leaves as it is. A setup gives back a whole record, which is stored. All other steps go through one function, `step`, which hands
-// the record over by value and gets back what changes in it: just the parts that change are stored. One function for all, because the
-// compiler copies the record once more for every function that is called from several places and takes it by value.
+// not use it leaves as it is. A setup gives back a whole record, which is stored. All other steps go through one function, `lent::step`.
 use fields::Fields;
 use fields::Found;
-use parts::Left;
-use target::Table;
 use target::Target;
 ghost use mathlib.Core.Path.{_≡_};
 ghost use Rattle.fields.specs.Fields.{writeFields, foundBy};
 ghost use Rattle.memory.specs.Head.{house};
-ghost use Rattle.parts.specs.Seen.{seen, seenOf, setupFrom, storeDraft, storeFresh, storePlains, storeEntry, afterOf};
+ghost use Rattle.results.specs.Seen.{seen, seenOf, setupFrom};
 ghost use Rattle.rules.specs.Outcome.{world};
 ghost use Rattle.rules.specs.Step.{requestOf, trapOf, scheduleOf, stateOf, restartOf};
-ghost use Rattle.steps.specs.Kinds.{leaving, stepBy};
+ghost use Rattle.steps.specs.Kinds.{leaving};
 ghost use Rattle.wire.specs.Codec.{written, readOf};
 
 #[no_mangle]
@@ -30,77 +26,9 @@ pub extern "C" fn sanirvoq_step_setup(
 ) -> u32
     ensures { λ r. ⌜ seen r (now (t .exit)) (now (mem .exit)) (now (regs .exit)) (now (reply .exit)) ≡ seenOf (leaving (now (reply .entry)) (setupFrom (world (now (t .entry)) (now (mem .entry)) (now (regs .entry))))) ⌝ }
 {
-    let d = parts::setup(*t, mem, regs, pid, value, input, reply);
+    let d = results::setup(*t, mem, regs, pid, value, input, reply);
     *t = d.target;
     d.result
-}
-
-// ---- the parts that change, stored in a record that is lent: one function for each part, which then hands the record on
-
-fn store_draft(t: &mut Target, d: Left) -> u32
-    ensures { λ r. ⌜ (r ≡ d .result) × (now (t .exit) ≡ storeDraft d (now (t .entry))) ⌝ }
-{
-    if d.draft {
-        t.table.draft = parts::draft_left(t.table.draft, d);
-    }
-    d.result
-}
-
-fn store_fresh(t: &mut Target, d: Left) -> u32
-    ensures { λ r. ⌜ (r ≡ d .result) × (now (t .exit) ≡ storeDraft d (storeFresh d (now (t .entry)))) ⌝ }
-{
-    if d.fresh {
-        t.table = Table::new();
-    }
-    store_draft(t, d)
-}
-
-fn store_plains(t: &mut Target, d: Left) -> u32
-    ensures { λ r. ⌜ (r ≡ d .result) × (now (t .exit) ≡ storeDraft d (storeFresh d (storePlains d (now (t .entry))))) ⌝ }
-{
-    if d.plains {
-        t.table.entries = parts::plains_left(t.table.entries, d);
-    }
-    store_fresh(t, d)
-}
-
-fn store_entry(t: &mut Target, d: Left) -> u32
-    ensures { λ r. ⌜ (r ≡ d .result) × (now (t .exit) ≡ storeDraft d (storeFresh d (storePlains d (storeEntry d (now (t .entry)))))) ⌝ }
-{
-    if d.entry {
-        let k = parts::index_left(t.table, d);
-        let e = parts::entry_left(t.table.draft, d);
-        t.table.entries = parts::stored_left(t.table.entries, k, e);
-    }
-    store_plains(t, d)
-}
-
-fn store(t: &mut Target, d: Left) -> u32
-    ensures { λ r. ⌜ (r ≡ d .result) × (now (t .exit) ≡ afterOf (now (t .entry)) d) ⌝ }
-{
-    if d.beside {
-        t.processes = parts::processes_left(t.count, t.processes, d);
-        t.selected = parts::selected_left(t.selected, d);
-        t.current = parts::current_left(t.current, d);
-    }
-    store_entry(t, d)
-}
-
-// The same over a record that is lent.
-fn step(
-    t: &mut Target,
-    kind: u8,
-    mem: &mut [u8],
-    regs: &mut [u8],
-    pid: u32,
-    value: u8,
-    input: &[u8],
-    reply: &mut [u8],
-) -> u32
-    ensures { λ r. ⌜ seen r (now (t .exit)) (now (mem .exit)) (now (regs .exit)) (now (reply .exit)) ≡ seenOf (stepBy kind (world (now (t .entry)) (now (mem .entry)) (now (regs .entry))) pid value (now (input .entry)) (now (reply .entry))) ⌝ }
-{
-    let d = parts::step_of(*t, kind, mem, regs, pid, value, input, reply);
-    store(t, d)
 }
 
 // A request: the ten bytes of input, answered in the ten of reply.
@@ -116,7 +44,7 @@ pub extern "C" fn sanirvoq_step_request(
 ) -> u32
     ensures { λ r. ⌜ seen r (now (t .exit)) (now (mem .exit)) (now (regs .exit)) (now (reply .exit)) ≡ seenOf (requestOf house (world (now (t .entry)) (now (mem .entry)) (now (regs .entry))) (now (input .entry)) (now (reply .entry))) ⌝ }
 {
-    step(t, 1, mem, regs, pid, value, input, reply)
+    lent::step(t, 1, mem, regs, pid, value, input, reply)
 }
 
 // A process ran into a trap: pid, and its block as input.
@@ -132,7 +60,7 @@ pub extern "C" fn sanirvoq_step_trap(
 ) -> u32
     ensures { λ r. ⌜ seen r (now (t .exit)) (now (mem .exit)) (now (regs .exit)) (now (reply .exit)) ≡ seenOf (leaving (now (reply .entry)) (trapOf house (world (now (t .entry)) (now (mem .entry)) (now (regs .entry))) pid (now (input .entry)))) ⌝ }
 {
-    step(t, 2, mem, regs, pid, value, input, reply)
+    lent::step(t, 2, mem, regs, pid, value, input, reply)
 }
 
 // The kernel is about to run a process: pid, and its block as input.
@@ -148,7 +76,7 @@ pub extern "C" fn sanirvoq_step_schedule(
 ) -> u32
     ensures { λ r. ⌜ seen r (now (t .exit)) (now (mem .exit)) (now (regs .exit)) (now (reply .exit)) ≡ seenOf (leaving (now (reply .entry)) (scheduleOf house (world (now (t .entry)) (now (mem .entry)) (now (regs .entry))) pid (now (input .entry)))) ⌝ }
 {
-    step(t, 3, mem, regs, pid, value, input, reply)
+    lent::step(t, 3, mem, regs, pid, value, input, reply)
 }
 
 // A process gets another state: pid and value.
@@ -164,7 +92,7 @@ pub extern "C" fn sanirvoq_step_state(
 ) -> u32
     ensures { λ r. ⌜ seen r (now (t .exit)) (now (mem .exit)) (now (regs .exit)) (now (reply .exit)) ≡ seenOf (leaving (now (reply .entry)) (stateOf house (world (now (t .entry)) (now (mem .entry)) (now (regs .entry))) pid value)) ⌝ }
 {
-    step(t, 4, mem, regs, pid, value, input, reply)
+    lent::step(t, 4, mem, regs, pid, value, input, reply)
 }
 
 // The debug session begins anew, answered in reply.
@@ -180,7 +108,7 @@ pub extern "C" fn sanirvoq_step_restart(
 ) -> u32
     ensures { λ r. ⌜ seen r (now (t .exit)) (now (mem .exit)) (now (regs .exit)) (now (reply .exit)) ≡ seenOf (restartOf house (world (now (t .entry)) (now (mem .entry)) (now (regs .entry))) (now (reply .entry))) ⌝ }
 {
-    step(t, 5, mem, regs, pid, value, input, reply)
+    lent::step(t, 5, mem, regs, pid, value, input, reply)
 }
 
 // Writes a message's ten bytes.

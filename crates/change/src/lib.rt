@@ -1,76 +1,19 @@
 // What a step changes in the record, made: part by part, so that a caller who has the record in its own memory writes just the parts
-// that change, and of a whole record.
+// that change, and of a whole record. What becomes of the entries is in `entries`.
 use rules::Change;
 use target::Draft;
 use target::Element;
-use target::Entry;
 use target::Process;
 use target::Table;
 use target::Target;
 ghost use mathlib.Core.Path.{_≡_};
-ghost use mathlib.Core.Bool.{true, false};
-ghost use mathlib.Core.List.{List};
-ghost use Prim.Native.Nat.{ℕ};
 ghost use lib.ListN.{set};
 ghost use Rattle.fit.specs.Fit.{processAt};
 ghost use Rattle.rules.specs.Record.{withState};
 ghost use Rattle.rules.specs.Condition.{begun as begunOf};
-ghost use Rattle.rules.specs.Request.{withPlains};
 ghost use Rattle.rules.specs.Change.{grown as grownOf, applied};
 ghost use Rattle.rules.specs.declared.Change.the-variants as change;
-ghost use Rattle.change.specs.Parts.{processesAfter, selectedAfter, currentAfter, entriesAfter, draftAfter, indexAfter, entryAfter, KeepsBeside, WrittenBy, KeepsDraft};
-
-// ---- which parts a change is about
-
-// The processes and the current one.
-pub fn in_beside(c: Change) -> bool
-    ensures { λ r. ⌜ (r ≡ false → KeepsBeside c) ⌝ }
-{
-    match c {
-        Change::Current(_) => true,
-        Change::State(_, _, _) => true,
-        Change::Start(_, _) => true,
-        Change::Restart => true,
-        _ => false,
-    }
-}
-
-// How a change writes the entries: not at all, one of them, their plain bytes, or the whole table afresh.
-pub enum Written {
-    Nowhere,
-    One,
-    Plains,
-    Fresh,
-}
-
-pub fn in_entries(c: Change) -> Written
-    ensures { λ r. ⌜ WrittenBy r c ⌝ }
-{
-    match c {
-        Change::Plant(_, _, _) => Written::One,
-        Change::Remove(_) => Written::One,
-        Change::Start(_, _) => Written::One,
-        Change::Plain => Written::Plains,
-        Change::Restart => Written::Fresh,
-        _ => Written::Nowhere,
-    }
-}
-
-// The condition in hand.
-pub fn in_draft(c: Change) -> bool
-    ensures { λ r. ⌜ (r ≡ false → KeepsDraft c) ⌝ }
-{
-    match c {
-        Change::Begin(_) => true,
-        Change::Add(_, _) => true,
-        Change::Drop => true,
-        Change::Plant(_, _, _) => true,
-        Change::Restart => true,
-        _ => false,
-    }
-}
-
-// ---- what becomes of them
+ghost use Rattle.change.specs.Parts.{processesAfter, selectedAfter, currentAfter, draftAfter};
 
 // The state and the mark of one process set.
 fn set_process(ps: [Process; 4], i: usize, state: u8, wanted: u8) -> [Process; 4]
@@ -137,95 +80,6 @@ pub fn current_after(current: u32, c: Change) -> u32
     }
 }
 
-// The index of the one entry that changes: a new breakpoint takes the free entry of the lowest index.
-pub fn index_after(u: Table, c: Change) -> usize
-    ensures { λ r. ⌜ r ≡ indexAfter u c ⌝ }
-{
-    match c {
-        Change::Plant(_, _, _) => u.first_free(),
-        Change::Remove(k) => k,
-        Change::Start(_, k) => k,
-        _ => 8,
-    }
-}
-
-// What it becomes: the condition in hand as a breakpoint, or free.
-pub fn entry_after(d: Draft, c: Change) -> Entry
-    ensures { λ r. ⌜ r ≡ entryAfter d c ⌝ }
-{
-    match c {
-        Change::Plant(site, b0, b1) => {
-            let elements = d.elements;
-            Entry {
-                used: 1,
-                id: d.id,
-                plain: [b0, b1],
-                site: site,
-                count: d.count,
-                elements: elements,
-            }
-        }
-        _ => Entry::free(),
-    }
-}
-
-// The entries with one stored.
-pub fn with_entry(es: [Entry; 8], k: usize, e: Entry) -> [Entry; 8]
-    ensures { λ r. ⌜ r ≡ set es k e ⌝ }
-{
-    let mut fs = es;
-    if k < 8 {
-        fs[k] = e;
-    }
-    fs
-}
-
-// The entries with their plain bytes taken from the slots' bytes. Just those that differ are written: an entry is large.
-pub fn with_plains(es: [Entry; 8], plain: [u8; 16]) -> [Entry; 8]
-    ensures { λ r. ⌜ r ≡ withPlains es plain ⌝ }
-{
-    let mut fs = es;
-    let mut k: usize = 0;
-    while k < 8 {
-        let old = fs[k];
-        let b0 = plain[2 * k];
-        let b1 = plain[2 * k + 1];
-        let same = old.plain[0] == b0 && old.plain[1] == b1;
-        if !same {
-            let mut e = fs[k];
-            e.plain[0] = b0;
-            e.plain[1] = b1;
-            fs[k] = e;
-        }
-        k += 1;
-    }
-    fs
-}
-
-// The entries.
-pub fn entries_after(u: Table, c: Change, plain: [u8; 16]) -> [Entry; 8]
-    ensures { λ r. ⌜ r ≡ entriesAfter u c plain ⌝ }
-{
-    let es = u.entries;
-    match c {
-        Change::Plain => with_plains(es, plain),
-        Change::Restart => {
-            let none = Entry::free();
-            [none; 8]
-        }
-        Change::Same => es,
-        Change::Current(_) => es,
-        Change::State(_, _, _) => es,
-        Change::Begin(_) => es,
-        Change::Add(_, _) => es,
-        Change::Drop => es,
-        _ => {
-            let draft = u.draft;
-            with_entry(es, index_after(u, c), entry_after(draft, c))
-        }
-    }
-}
-
 // A condition in hand with an id and no element.
 fn begun(id: u8) -> Draft
     ensures { λ r. ⌜ r ≡ begunOf id ⌝ }
@@ -275,7 +129,7 @@ pub fn apply(t: Target, c: Change, plain: [u8; 16]) -> Target
     u.processes = qs;
     u.selected = selected_after(t.selected, c);
     u.current = current_after(t.current, c);
-    let entries = entries_after(table, c, plain);
+    let entries = entries::entries_after(table, c, plain);
     let draft = draft_after(d, c);
     let after = Table {
         entries: entries,
