@@ -1,43 +1,31 @@
--- Laws of finding a breakpoint, and of the tests of Tcondbreak. Assumes nothing.
-use mathlib.Core.Path.{_≡_, refl, sym, ap, _∙_}
+-- Laws of finding a breakpoint and of its slot. Assumes nothing.
+use mathlib.Core.Path.{_≡_, refl, sym, _∙_}
 use mathlib.Core.Bool.{Bool, true, false}
-use mathlib.Core.List.{List, [], _∷_, map}
-use Prim.Native.Nat.{ℕ, suc, _+_, _-_, _*_, _%_, _<_, _≤_}
+use mathlib.Core.List.{List, [], _∷_}
+use Prim.Native.Nat.{ℕ, _+_, _-_, _*_, _%_, _<_, _≤_}
 use native.Mathlib.Omega.{arith}
-use borrow.Author.Tests.{eq-eqb, ne-eqb, lt-ltb, le-leb, lt-leb}
-use lib.Dec.{eqb, leb}
+use borrow.Author.Tests.{eq-eqb, ne-eqb}
+use lib.Dec.{eqb}
 use lib.ListN.{length, getD}
 use mir.Val.{Val}
 use denote.Laws.{Is}
-use Rattle.common.specs.First.{firstOf}
-use Rattle.common.specs.Tab.{tab}
+use Rattle.common.proofs.Cases.{on-less, on-same}
 use Rattle.common.proofs.First.{first-within}
-use Rattle.common.proofs.Tab.{tab-sized}
-use Rattle.condition.specs.Add.{roomFor, addedBy, addOf}
-use Rattle.condition.specs.Depth.{depthOf, depthAfter}
-use Rattle.condition.specs.declared.Room.{Room}
-use Rattle.condition.specs.declared.Room.the-variants.{Fits, Full, Short}
-use Rattle.fit.specs.Arrays.{noId, idOf, idsOf, siteOf, sitesOf}
-use Rattle.fit.specs.Fit.{entryAt, entryOf}
+use Rattle.common.proofs.Tab.{two-of}
+use Rattle.fit.specs.Arrays.{siteOf, sitesOf}
+use Rattle.fit.specs.Fit.{entryAt}
 use Rattle.fit.specs.declared.Scan.{Scan}
 use Rattle.memory.specs.Head.{house}
 use Rattle.memory.specs.Overlay.{siteOver, slotOf}
-use Rattle.common.proofs.Cases.{on-less, on-same, on-test}
-use Rattle.common.proofs.Same.{true-or-false}
-use Rattle.rules.specs.Change.{grown}
 use Rattle.rules.specs.Breakpoint.{sites, isAt, breakpointAt}
-use Rattle.rules.specs.Condition.{inHand, joined, addElement, siteFree}
 use Rattle.rules.specs.Facts.{Shaped, Good}
-use Rattle.rules.specs.FitFacts.{parts, facts-of}
+use Rattle.rules.specs.FitFacts.{facts-of}
 use Rattle.rules.specs.Found.{at-used, at-site}
-use Rattle.rules.specs.Outcome.{World}
 use Rattle.rules.specs.Ready.{Ready}
-use Rattle.rules.specs.Slots.{TwoEach, site-at, site-used, plain-byte, id-used, id-free}
-use Rattle.target.specs.Free.{isFree, firstFree}
-use Rattle.scan.proofs.Laws.{Small, first-map, shape-at}
+use Rattle.rules.specs.Slots.{TwoEach, site-at, site-used, plain-byte}
+use Rattle.scan.proofs.Laws.{first-map, shape-at}
+use Rattle.target.specs.Free.{isFree}
 use Rattle.target.specs.Fresh.{noEntry}
-use Rattle.target.specs.declared.Draft.{Draft}
-use Rattle.target.specs.declared.Element.{Element}
 use Rattle.target.specs.declared.Entry.{Entry}
 use Rattle.target.specs.declared.Target.{Target}
 use Rattle.target.proofs.Shape.{draft-shape, table-entries, table-draft, target-shape, target-table}
@@ -63,11 +51,6 @@ shaped-of t vs h =
 pub ready-good : (t : Target) (vs : List Val) (s : Scan) (mem regs : List ℕ) → Is target.the-row t vs → Ready house t s mem regs → Good house t mem
 ready-good t vs s mem regs h r = record { shaped = shaped-of t vs h; fit = r .fit; sized = r .memory }
 
--- the two plain bytes of an entry
-pub two-bytes : (l : List ℕ) → length l ≡ 2 → l ≡ getD l 0 0 ∷ getD l 1 0 ∷ []
-unfolding tab
-two-bytes l h = tab-sized l 0 2 h
-
 -- ---- the breakpoint at an address is the slot that covers its offset
 
 module _ (base address : ℕ) (low : base ≤ address) (even : (address - base) % 2 ≡ 0) where
@@ -88,14 +71,6 @@ module _ (base address : ℕ) (low : base ≤ address) (even : (address - base) 
   unfolding slotOf sitesOf breakpointAt
   slot-found es h = first-map _ (siteOf base) (isAt address) es noEntry (λ k l. slot-at (entryAt es k) (h k l))
 
--- no breakpoint is at an address where the search ends
-pub at-end : (es : List Entry) (address : ℕ) → length es ≡ 8 → eqb (breakpointAt es address) 8 ≡ leb (length es) (breakpointAt es address)
-unfolding breakpointAt
-at-end es address h =
-    let k = breakpointAt es address in
-    let z = first-within (isAt address) es in
-    on-less k 8 (λ l. ne-eqb k 8 (λ e. omega arith) ∙ sym (lt-leb (length es) k (omega arith))) (λ l. eq-eqb k 8 (omega arith) ∙ sym (le-leb (length es) k (omega arith)))
-
 module _ (t : Target) (mem : List ℕ) (g : Good house t mem) (address : ℕ) where
   -- the slot of an even offset finds the breakpoint
   pub at-even : t .base ≤ address → (address - t .base) % 2 ≡ 0
@@ -114,13 +89,6 @@ module _ (t : Target) (mem : List ℕ) (g : Good house t mem) (address : ℕ) wh
       let l : k < length es = omega (arith, g .shaped .entries) in
       let e = facts-of t mem g .used k (h, at-used es address l) in
       absurd (never (omega (arith, e .low, at-site es address l)) (omega (arith, e .even, at-site es address l)))) (λ h. omega (arith, first-within (isAt address) es, g .shaped .entries))
-
--- ---- the breakpoint with an id is the one that the scan's ids name
-
-pub id-found : (t : Target) (s : Scan) (mem regs : List ℕ) (id : ℕ) → Ready house t s mem regs
-    → firstOf (eqb id) (s .ids) ≡ entryOf (t .table .entries) id
-unfolding entryOf
-id-found t s mem regs id r = ap (firstOf (eqb id)) (r .ids)
 
 -- ---- the scan's slot of a used entry: its site, as an offset into the window, and its two plain bytes
 
@@ -141,42 +109,4 @@ module _ (t : Target) (s : Scan) (k : ℕ) (h : Shaped t) (r : Removable t s k) 
   pub slot-plain : getD (s .plain) (2 * k) 0 ∷ getD (s .plain) (2 * k + 1) 0 ∷ [] ≡ entryAt (t .table .entries) k .plain
   slot-plain =
       rw (slot-byte (2 * k) 0 (omega arith) (omega arith), slot-byte (2 * k + 1) 1 (omega arith) (omega arith))
-      (sym (two-bytes (entryAt (t .table .entries) k .plain) (two k within)))
-
--- ---- the ids of a record's entries are bytes
-
-pub ids-small : (t : Target) → Shaped t → Small (t .table .entries)
-ids-small t h k l = h .entry k (omega (arith, h .entries)) .id
-
--- ---- the requests
-
--- an element joins, or does not, as what is tried with it says
-pub add-joined : (w : World) (e : Element) (r : Room) → (w .target .table .draft .active ≡ 0 → ⊥)
-    → addOf (w .target .table .draft) e .room ≡ r → joined w (addOf (w .target .table .draft) e) r ≡ addElement w e
-unfolding addElement inHand
-add-joined w e r h q = rw (ne-eqb (w .target .table .draft .active) 0 h, q)
-
-fits : Room → Bool
-fits Fits = true
-fits Full = false
-fits Short = false
-
--- the condition in hand with an element that fits is the one grown by it
-pub fits-grown : (d : Draft) (e : Element) → addOf d e .room ≡ Fits → grown d e ≡ addOf d e .draft
-unfolding addOf addedBy roomFor grown fits
-fits-grown d e q =
-    let after = depthAfter (depthOf (d .elements) (d .count)) (e .letter) (e .value) in
-    on-less (d .count) 16
-    (λ h. on-same after 0
-    (λ z. true-or-false (ap fits (rw (lt-leb 16 (d .count) h, eq-eqb after 0 z) at q)))
-    (λ n. rw (lt-ltb (d .count) 16 h, lt-leb 16 (d .count) h, ne-eqb after 0 n)))
-    (λ h. true-or-false (ap fits (rw (le-leb 16 (d .count) h) at q)))
-
--- a site for a breakpoint lies in the window
-pub site-low : (w : World) (val : ℕ) → siteFree w val ≡ true → w .target .base ≤ val
-unfolding siteFree
-site-low w val e = search parts depth 8
-
-pub site-high : (w : World) (val : ℕ) → siteFree w val ≡ true → val + 2 ≤ w .target .base + w .target .size
-unfolding siteFree
-site-high w val e = search parts depth 8
+      (sym (two-of (entryAt (t .table .entries) k .plain) 0 (two k within)))

@@ -1,9 +1,7 @@
--- What removing a breakpoint and making one need of the record.
+-- What putting a breakpoint's bytes back needs of the record.
 use mathlib.Core.Path.{_≡_}
 use mathlib.Core.Bool.{false}
-use mathlib.Core.List.{List}
-use Prim.Native.Nat.{ℕ, _+_, _-_, _≤_, _<_}
-use lib.ListN.{length}
+use Prim.Native.Nat.{ℕ, _<_}
 use Rattle.fit.specs.Fit.{entryAt}
 use Rattle.fit.specs.declared.Scan.{Scan}
 use Rattle.rules.specs.Breakpoint.{sites, plains}
@@ -15,9 +13,3 @@ pub record Removable (t : Target) (s : Scan) (k : ℕ) : Type 0 where
   pub plain : s .plain ≡ plains t
   pub below : k < 8
   pub used : isFree (entryAt (t .table .entries) k) ≡ false
-
-pub record Plantable (t : Target) (s : Scan) (mem : List ℕ) (site : ℕ) : Type 0 where
-  pub traps : s .sites ≡ sites t
-  pub plain : s .plain ≡ plains t
-  pub low : t .base ≤ site
-  pub high : site - t .base + 2 ≤ length mem

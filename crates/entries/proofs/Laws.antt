@@ -2,7 +2,7 @@
 use mathlib.Core.Path.{_≡_, refl, sym, ap, _∙_}
 use mathlib.Core.Bool.{true}
 use mathlib.Core.List.{List, [], _∷_}
-use Prim.Native.Nat.{ℕ, suc, _+_, _*_, _<_, _≤_}
+use Prim.Native.Nat.{ℕ, _+_, _*_, _<_, _≤_}
 use native.Mathlib.Nat.{mul-comm, add-zero}
 use native.Mathlib.Numerals.{add-one}
 use native.Mathlib.Omega.{arith}
@@ -10,12 +10,12 @@ use denote.Enum.Declared.{tagOf}
 use denote.Array.{Array}
 use denote.Laws.{Is}
 use lib.ListN.{length, getD, set, take, drop}
-use lib.Seq.{set-getD, getD-drop, take-all, take-suc, take-suc-set, drop-cons, drop-drop, drop-set-lt}
+use lib.Seq.{set-getD, getD-drop, take-all, take-suc, take-suc-set, drop-drop, drop-set-lt}
 use mir.Val.{Val}
 use Rattle.common.specs.Keys.{among}
 use Rattle.common.specs.Tab.{tab}
 use Rattle.common.proofs.Same.{true-or-false}
-use Rattle.common.proofs.Tab.{tab-sized}
+use Rattle.common.proofs.Tab.{two-of, tab-part}
 use Rattle.rules.specs.Change.{applied}
 use Rattle.rules.specs.Record.{withTable, withEntries, withProcesses, setState}
 use Rattle.rules.specs.Request.{withPlains}
@@ -87,16 +87,13 @@ pub entry-plain : (n : ℕ) (es : List Entry) (vs : List Val) (k : ℕ) → Is (
 entry-plain n es vs k g h =
     entry-shape (getD es k noEntry) _ (each-at Entry (entry.the-row .own) es (g .0) k noEntry (g .1 .1) h .1) .plain
 
--- a pair is its two bytes, and two stores fill it
-of-two : (p : List ℕ) → length p ≡ 2 → p ≡ getD p 0 0 ∷ getD p 1 0 ∷ []
-unfolding tab
-of-two p h = tab-sized p 0 2 h
-
+-- two stores fill a pair
 stored : (p : List ℕ) (a b : ℕ) → length p ≡ 2 → set (set p 0 a) 1 b ≡ a ∷ b ∷ []
-stored p a b h = ap (λ (l : List ℕ). set (set l 0 a) 1 b) (of-two p h)
+stored p a b h = ap (λ (l : List ℕ). set (set l 0 a) 1 b) (two-of p 0 h)
 
 pair : (bytes : List ℕ) (m : ℕ) → m + 1 < length bytes → take 2 (drop m bytes) ≡ getD bytes m 0 ∷ getD bytes (m + 1) 0 ∷ []
-pair bytes m h = rw (drop-cons bytes m 0 (omega arith), drop-cons bytes (suc m) 0 (omega arith), add-one)
+unfolding tab
+pair bytes m h = rw (tab-part bytes 0 m 2 (omega arith), add-zero)
 
 -- the entry at place k takes a pair of bytes
 abbrev pub Taken : List Entry → ℕ → ℕ → ℕ → List Entry → Type 0
@@ -110,7 +107,7 @@ module _ (us : List Entry) (k a b : ℕ) (vs : List Entry) (two : length (getD u
   pub there-already : getD (getD us k noEntry .plain) 0 0 ≡ a → getD (getD us k noEntry .plain) 1 0 ≡ b → vs ≡ us → Taken us k a b vs
   there-already p q e =
       e ∙ sym (set-getD us k noEntry)
-      ∙ ap (λ (l : List ℕ). set us k (withPlain (getD us k noEntry) l)) (of-two (getD us k noEntry .plain) two ∙ rw (p, q))
+      ∙ ap (λ (l : List ℕ). set us k (withPlain (getD us k noEntry) l)) (two-of (getD us k noEntry .plain) 0 two ∙ rw (p, q))
 
 -- a loop over the entries: those before k are taken, those from k on as they were
 module _ (es us : List Entry) (bytes : List ℕ) (k : ℕ) (z : length us ≡ length es) where

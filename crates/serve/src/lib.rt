@@ -33,7 +33,7 @@ pub fn serve(t: Target, s: Scan, mem: &mut [u8], regs: &mut [u8], m: Message) ->
         Message::Trnote { pid } => control::rnote(t, pid),
         Message::Tstop { pid } => control::stop(t, pid),
         Message::Tstart { pid } => control::start(t, s, mem, regs, pid),
-        Message::Tcondbreak { val, op } => breaks::condbreak(t, s, mem, regs, val, op),
+        Message::Tcondbreak { val, op } => condbreak::condbreak(t, s, mem, regs, val, op),
         _ => Served::with(
             Change::Same,
             wire::bytes_of(Message::Rerr {
@@ -63,7 +63,7 @@ pub fn refuse(s: &[u8], reason: Reason) -> Served
     ensures { λ r. ⌜ ((t : Target) (mem regs : List ℕ) → served t r mem regs ≡ refusedBy (world t mem regs) (now (s .entry)) reason) ⌝ }
 {
     if drops_draft(s) {
-        return breaks::fail(reason);
+        return condbreak::fail(reason);
     }
     Served::with(Change::Same, wire::bytes_of(Message::Rerr { reason }))
 }

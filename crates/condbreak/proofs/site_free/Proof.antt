@@ -1,10 +1,11 @@
--- `breaks::site_free` meets its contract: its tests are the definition's, in their order. Assumes nothing.
+-- `condbreak::site_free` meets its contract: its tests are the definition's, in their order. Assumes nothing.
 use borrow.Author.Needs.{needs}
 use borrow.Author.Tests.{eq-eqb, ne-eqb, le-leb, lt-leb}
 use Rattle.rules.specs.Condition.{siteFree}
-use Rattle.breaks.proofs.Laws.{shaped-of, at-end}
-use Rattle.breaks.proofs.site_free.Statement.{statement}
-use Rattle.breaks.proofs.site_free.Tie as tie
+use Rattle.condbreak.proofs.Laws.{at-end}
+use Rattle.breaks.proofs.Laws.{shaped-of}
+use Rattle.condbreak.proofs.site_free.Statement.{statement}
+use Rattle.condbreak.proofs.site_free.Tie as tie
 
 returns : tie.Need-returns
 unfolding siteFree

@@ -1,4 +1,4 @@
--- `breaks::delete` meets its contract: the ids of the scan are the table's, and an entry that is found is used. Assumes nothing.
+-- `condbreak::delete` meets its contract: the ids of the scan are the table's, and an entry that is found is used. Assumes nothing.
 use mathlib.Core.Path.{_≡_, ap, _∙_}
 use native.Mathlib.Omega.{arith}
 use borrow.Author.Needs.{needs}
@@ -11,9 +11,10 @@ use Rattle.rules.specs.Condition.{deleteBreakpoint}
 use Rattle.rules.specs.Found.{id-is-used}
 use Rattle.rules.specs.Outcome.{replied, error}
 use Rattle.wire.specs.declared.Message.the-variants.{Rcondbreak}
-use Rattle.breaks.proofs.Laws.{shaped-of, id-found}
-use Rattle.breaks.proofs.delete.Statement.{statement}
-use Rattle.breaks.proofs.delete.Tie as tie
+use Rattle.condbreak.proofs.Laws.{id-found}
+use Rattle.breaks.proofs.Laws.{shaped-of}
+use Rattle.condbreak.proofs.delete.Statement.{statement}
+use Rattle.condbreak.proofs.delete.Tie as tie
 
 -- where the code starts, from where it has looked for the id
 abbrev start : tie.After-entry-of → tie.Start

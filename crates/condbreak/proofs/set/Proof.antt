@@ -1,4 +1,4 @@
--- `breaks::set` meets its contract: its tests are the definition's, in their order. A free site lies in the
+-- `condbreak::set` meets its contract: its tests are the definition's, in their order. A free site lies in the
 -- window. Assumes nothing.
 use mathlib.Core.Path.{_≡_, sym, _∙_}
 use mathlib.Core.Bool.{true}
@@ -9,9 +9,9 @@ use denote.Ref.{now}
 use Rattle.condition.specs.Depth.{wellFormed}
 use Rattle.rules.specs.Condition.{inHand, siteFree, setBreakpoint}
 use Rattle.rules.specs.Outcome.{World, world}
-use Rattle.breaks.proofs.Laws.{site-low, site-high}
-use Rattle.breaks.proofs.set.Statement.{statement}
-use Rattle.breaks.proofs.set.Tie as tie
+use Rattle.condbreak.proofs.Laws.{site-low, site-high}
+use Rattle.condbreak.proofs.set.Statement.{statement}
+use Rattle.condbreak.proofs.set.Tie as tie
 
 -- the world and the address, from where the site is tested
 abbrev start : tie.After-site-free → tie.Start

@@ -1,4 +1,4 @@
--- `breaks::begin` meets its contract: the ids of the scan are the table's, so that each test decides as the definition's does.
+-- `condbreak::begin` meets its contract: the ids of the scan are the table's, so that each test decides as the definition's does.
 -- Assumes nothing.
 use mathlib.Core.Path.{_≡_, sym, ap, _∙_}
 use mathlib.Core.Bool.{cond}
@@ -21,9 +21,10 @@ use Rattle.target.specs.declared.Target.{Target}
 use Rattle.wire.specs.declared.Message.the-variants.{Rcondbreak}
 use Rattle.text.specs.declared.Reason.the-variants.{Count, Inval}
 use Rattle.scan.proofs.Laws.{first-free}
-use Rattle.breaks.proofs.Laws.{shaped-of, id-found, ids-small}
-use Rattle.breaks.proofs.begin.Statement.{statement}
-use Rattle.breaks.proofs.begin.Tie as tie
+use Rattle.condbreak.proofs.Laws.{id-found, ids-small}
+use Rattle.breaks.proofs.Laws.{shaped-of}
+use Rattle.condbreak.proofs.begin.Statement.{statement}
+use Rattle.condbreak.proofs.begin.Tie as tie
 
 module _ (t : Target) (mem regs : List ℕ) (val : ℕ) (eight : length (t .table .entries) ≡ 8) (small : val ≤ 255) where
   -- the id is in use

@@ -1,11 +1,11 @@
--- `breaks::plant` meets its contract: the entry that is stored, the trap that is laid and the reply are the definition's.
+-- `condbreak::plant` meets its contract: the entry that is stored, the trap that is laid and the reply are the definition's.
 -- Assumes nothing.
 use mathlib.Core.Path.{_∙_}
 use borrow.Author.Needs.{needs}
 use Rattle.rules.specs.Breakpoint.{madeEntry, planted}
 use Rattle.rules.specs.Change.{applied}
-use Rattle.breaks.proofs.plant.Statement.{statement}
-use Rattle.breaks.proofs.plant.Tie as tie
+use Rattle.condbreak.proofs.plant.Statement.{statement}
+use Rattle.condbreak.proofs.plant.Tie as tie
 
 sub-at : tie.Need-sub-at
 sub-at c = search needs

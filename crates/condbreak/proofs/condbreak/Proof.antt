@@ -1,9 +1,9 @@
--- `breaks::condbreak` meets its contract: each letter chooses the definition's request. Assumes nothing.
+-- `condbreak::condbreak` meets its contract: each letter chooses the definition's request. Assumes nothing.
 use borrow.Author.Needs.{needs}
 use borrow.Author.Tests.{ne-eqb}
 use Rattle.rules.specs.Condition.{condbreak}
-use Rattle.breaks.proofs.condbreak.Statement.{statement}
-use Rattle.breaks.proofs.condbreak.Tie as tie
+use Rattle.condbreak.proofs.condbreak.Statement.{statement}
+use Rattle.condbreak.proofs.condbreak.Tie as tie
 
 begin-requires : tie.Need-begin-requires
 begin-requires c κs = search needs

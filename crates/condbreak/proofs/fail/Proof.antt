@@ -1,10 +1,10 @@
--- `breaks::fail` meets its contract: the record's one change and the reply are the definition's. Assumes nothing.
+-- `condbreak::fail` meets its contract: the record's one change and the reply are the definition's. Assumes nothing.
 use borrow.Author.Needs.{needs}
 use Rattle.rules.specs.Change.{applied}
 use Rattle.rules.specs.Condition.{dropped, failed}
 use Rattle.rules.specs.Outcome.{replied, error}
-use Rattle.breaks.proofs.fail.Statement.{statement}
-use Rattle.breaks.proofs.fail.Tie as tie
+use Rattle.condbreak.proofs.fail.Statement.{statement}
+use Rattle.condbreak.proofs.fail.Tie as tie
 
 bytes-of-requires : tie.Need-bytes-of-requires
 bytes-of-requires c κs = search needs

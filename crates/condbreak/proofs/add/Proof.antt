@@ -1,4 +1,4 @@
--- `breaks::add` meets its contract: what `condition::add` answers chooses the arm of the definition. Assumes nothing.
+-- `condbreak::add` meets its contract: what `condition::add` answers chooses the arm of the definition. Assumes nothing.
 use mathlib.Core.Path.{_≡_, ap, _∙_}
 use mathlib.Core.List.{List}
 use Prim.Native.Nat.{ℕ}
@@ -14,9 +14,9 @@ use Rattle.rules.specs.Record.{withDraft}
 use Rattle.target.specs.declared.Element.{Element}
 use Rattle.target.specs.declared.Draft.{Draft}
 use Rattle.wire.specs.declared.Message.the-variants.{Rcondbreak}
-use Rattle.breaks.proofs.Laws.{add-joined, fits-grown}
-use Rattle.breaks.proofs.add.Statement.{statement}
-use Rattle.breaks.proofs.add.Tie as tie
+use Rattle.condbreak.proofs.Laws.{add-joined, fits-grown}
+use Rattle.condbreak.proofs.add.Statement.{statement}
+use Rattle.condbreak.proofs.add.Tie as tie
 
 -- where the code starts, from where the element is tried
 abbrev start : tie.After-add → tie.Start

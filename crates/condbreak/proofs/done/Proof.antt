@@ -1,8 +1,8 @@
--- `breaks::done` meets its contract: the change with no plain bytes beside it, and the reply, are the definition's. Assumes nothing.
+-- `condbreak::done` meets its contract: the change with no plain bytes beside it, and the reply, are the definition's. Assumes nothing.
 use borrow.Author.Needs.{needs}
 use Rattle.rules.specs.Outcome.{replied}
-use Rattle.breaks.proofs.done.Statement.{statement}
-use Rattle.breaks.proofs.done.Tie as tie
+use Rattle.condbreak.proofs.done.Statement.{statement}
+use Rattle.condbreak.proofs.done.Tie as tie
 
 bytes-of-requires : tie.Need-bytes-of-requires
 bytes-of-requires c κs = search needs
