@@ -82,7 +82,7 @@ fn get_registers<'a>(t: Target, mem: &'a [u8], regs: &'a [u8], addr: u32, n: u8)
         Block::At(i) => i,
     };
     let from = 136 * i;
-    let part = memory::stretch(&regs[from..from + 136], mem, t.base, addr, n);
+    let part = place::stretch(&regs[from..from + 136], mem, t.base, addr, n);
     rmget(memory::read(part, &[1; 8], &[0; 16], 0))
 }
 
@@ -95,7 +95,7 @@ fn get_window<'a>(t: Target, s: Scan, mem: &'a [u8], regs: &'a [u8], addr: u32, 
     let sites = s.sites;
     let plain = s.plain;
     let at = (addr - t.base) as usize;
-    let part = memory::stretch(&regs[0..136], mem, t.base, addr, n);
+    let part = place::stretch(&regs[0..136], mem, t.base, addr, n);
     rmget(memory::read(part, &sites, &plain, at))
 }
 
@@ -107,7 +107,7 @@ pub fn mget<'a>(t: Target, s: Scan, mem: &'a [u8], regs: &'a [u8], addr: u32, n:
     if n == 0 {
         return rmget([0; 9]);
     }
-    let place = memory::place_of(t.base, t.size, addr, n);
+    let place = place::place_of(t.base, t.size, addr, n);
     match place {
         Place::Registers => get_registers(t, mem, regs, addr, n),
         Place::Window => get_window(t, s, mem, regs, addr, n),
@@ -154,7 +154,7 @@ pub fn mput(
     }
     let bytes = [d.b0, d.b1, d.b2, d.b3];
     let count = n as usize;
-    let place = memory::place_of(t.base, t.size, addr, n);
+    let place = place::place_of(t.base, t.size, addr, n);
     match place {
         Place::Registers => {
             Served::with(Change::Same, put_registers(t, regs, addr, &bytes[..count]))

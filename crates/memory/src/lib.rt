@@ -1,4 +1,4 @@
-// The window under traps: reads and writes of plain bytes, laying bytes over a site, and the stretch that an address names.
+// The window under traps: reads and writes of plain bytes, and laying bytes over a site.
 //
 // Everything goes by offset into the window. A table of breakpoints is given by two small arrays: the slots' sites, where a free
 // slot has the odd site 1, and the slots' plain bytes, two for each slot.
@@ -8,9 +8,8 @@ ghost use Prim.Native.Nat.{ℕ, _+_, _≤_, min};
 ghost use lib.ListN.{length};
 ghost use Rattle.memory.specs.Overlay.{slotOf, plainAt, plainOf, laidOver};
 ghost use Rattle.memory.specs.Write.{partRead, memAfter, plainAfter};
-ghost use Rattle.memory.specs.Place.{placeOf, stretchOf};
 
-// Where the bytes that a request names lie.
+// Where the bytes that a request names lie; crate `place` says where.
 pub enum Place {
     Registers,
     Window,
@@ -142,45 +141,4 @@ pub fn restore(mem: &mut [u8], sites: &[u32; 8], plain: &[u8; 16])
         k -= 1;
         lay(mem, all[k] as usize, plain[2 * k], plain[2 * k + 1]);
     }
-}
-
-// Where the n bytes from an address lie.
-pub fn place_of(base: u32, size: u32, address: u32, n: u8) -> Place
-    ensures { λ r. ⌜ r ≡ placeOf base size address n ⌝ }
-{
-    let end = address as u64 + n as u64;
-    if end <= 136 {
-        return Place::Registers;
-    }
-    if address < base {
-        return Place::Nowhere;
-    }
-    let last = base as u64 + size as u64;
-    if last < end {
-        return Place::Nowhere;
-    }
-    Place::Window
-}
-
-// The stretch that an address names: a part of the register block or of the window.
-pub fn stretch<'a>(block: &'a [u8], mem: &'a [u8], base: u32, address: u32, n: u8) -> &'a [u8]
-    requires { ⌜ length (now block) ≡ 136 ⌝ }
-    ensures { λ r. ⌜ now r ≡ stretchOf (placeOf base (length (now (mem .entry))) address n) (now (block .entry)) (now (mem .entry)) base address n ⌝ }
-{
-    let from = address as usize;
-    let count = n as usize;
-    if from + count <= 136 {
-        return &block[from..from + count];
-    }
-    if address < base {
-        return &mem[0..0];
-    }
-    let start = from - base as usize;
-    if mem.len() < count {
-        return &mem[0..0];
-    }
-    if mem.len() - count < start {
-        return &mem[0..0];
-    }
-    &mem[start..start + count]
 }

@@ -1,9 +1,9 @@
--- `memory::place_of` meets its contract: each return is one case of the definition. Assumes nothing.
+-- `place::place_of` meets its contract: each return is one case of the definition. Assumes nothing.
 use mathlib.Core.Path.{sym}
 use Rattle.memory.proofs.Laws.{place-registers, place-below, place-past, place-window}
 use borrow.Author.Needs.{needs}
-use Rattle.memory.proofs.place_of.Statement.{statement}
-use Rattle.memory.proofs.place_of.Tie as tie
+use Rattle.place.proofs.place_of.Statement.{statement}
+use Rattle.place.proofs.place_of.Tie as tie
 
 add-end : tie.Need-add-end
 add-end c = search needs

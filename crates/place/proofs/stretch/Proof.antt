@@ -1,4 +1,4 @@
--- `memory::stretch` meets its contract: each return is one case of the definition. Assumes nothing.
+-- `place::stretch` meets its contract: each return is one case of the definition. Assumes nothing.
 use mathlib.Core.Path.{_≡_}
 use mathlib.Core.List.{List, []}
 use Prim.Native.Nat.{ℕ, _+_, _-_, _<_, _≤_}
@@ -7,10 +7,10 @@ use native.Mathlib.Omega.{arith}
 use borrow.Author.Needs.{needs}
 use denote.Ref.{now}
 use lib.ListN.{length, take, drop}
 use Rattle.memory.specs.Place.{placeOf, stretchOf}
 use Rattle.memory.proofs.Laws.{place-registers, place-below, place-past, place-window}
-use Rattle.memory.proofs.stretch.Statement.{statement}
-use Rattle.memory.proofs.stretch.Tie as tie
+use Rattle.place.proofs.stretch.Statement.{statement}
+use Rattle.place.proofs.stretch.Tie as tie
 
 module _ (block mem : List ℕ) (base a n : ℕ) where
   abbrev named : List ℕ
