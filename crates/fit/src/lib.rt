@@ -3,8 +3,8 @@
 // Crate `scan` has the tests of the table, and of the whole record.
 use target::Process;
 ghost use mathlib.Core.Path.{_≡_};
-ghost use mathlib.Core.Bool.{not};
-ghost use Prim.Native.Nat.{_≤_};
+ghost use mathlib.Core.Bool.{not, _&&_};
+ghost use Prim.Native.Nat.{_*_, _≤_};
 ghost use lib.Dec.{eqb};
 ghost use lib.ListN.{getD};
 ghost use Rattle.common.specs.Every.{every};
@@ -140,4 +140,13 @@ pub fn current_fit(selected: u8, current: u32, ps: [Process; 4], count: u32) -> 
         return false;
     }
     process_of(ps, count, current) < count as usize
+}
+
+// Memory is M bytes, and there are 136 register bytes for each process.
+pub fn sizes_right(size: u32, count: u32, mem: usize, regs: usize) -> bool
+    ensures { λ r. ⌜ r ≡ (eqb mem size && eqb regs (136 * count)) ⌝ }
+{
+    let bytes = size as usize;
+    let blocks = 136 * count as u64;
+    mem == bytes && regs as u64 == blocks
 }

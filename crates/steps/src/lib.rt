@@ -23,15 +23,6 @@ ghost use Rattle.rules.specs.Event.{restart as restartRule};
 ghost use Rattle.rules.specs.declared.Answer.the-variants as answer;
 ghost use Rattle.steps.specs.Kinds.{lentRight, stepBy};
 
-// Memory is M bytes, and there are 136 register bytes for each process.
-pub fn sizes_right(t: Target, mem: usize, regs: usize) -> bool
-    ensures { λ r. ⌜ r ≡ (eqb mem (t .size) && eqb regs (136 * t .count)) ⌝ }
-{
-    let size = t.size as usize;
-    let blocks = 136 * t.count as u64;
-    mem == size && regs as u64 == blocks
-}
-
 // A request and a reply are ten bytes, a block 136.
 pub fn lent_right(kind: u8, input: usize, reply: usize) -> bool
     ensures { λ r. ⌜ r ≡ lentRight kind input reply ⌝ }
@@ -118,7 +109,7 @@ pub fn step(
 ) -> Effect
     ensures { λ r. ⌜ effected t r (now (mem .exit)) (now (regs .exit)) (now (reply .exit)) ≡ stepBy kind (world t (now (mem .entry)) (now (regs .entry))) pid value (now (input .entry)) (now (reply .entry)) ⌝ }
 {
-    if !sizes_right(t, mem.len(), regs.len()) {
+    if !fit::sizes_right(t.size, t.count, mem.len(), regs.len()) {
         return Effect::keeping(2, Answer::Nothing);
     }
     if !lent_right(kind, input.len(), reply.len()) {

@@ -1,18 +1,14 @@
 // The steps of the debug stub. Each is one call over a record by value and lent buffers of any size; each refuses bad input itself, and gives back
 // the record afterwards.
-use rules::Answer;
 use rules::Done;
 use rules::Effect;
-use target::Process;
-use target::Table;
+pub use setup::setup;
 use target::Target;
 ghost use mathlib.Core.Path.{_≡_};
-ghost use mathlib.Core.List.{List, []};
-ghost use Prim.Native.Nat.{ℕ, _≤_};
+ghost use mathlib.Core.List.{[]};
 ghost use Rattle.memory.specs.Head.{house};
 ghost use Rattle.rules.specs.Outcome.{world, outcome};
-ghost use Rattle.rules.specs.Step.{setupTarget, setupOf, requestOf, trapOf, scheduleOf, stateOf, restartOf};
-ghost use Rattle.rules.specs.declared.Answer.the-variants as answer;
+ghost use Rattle.rules.specs.Step.{requestOf, trapOf, scheduleOf, stateOf, restartOf};
 ghost use Rattle.rules.specs.Change.{applied};
 
 // Makes the change of a step.
@@ -28,81 +24,6 @@ fn finish(t: Target, e: Effect) -> Done
         answer,
         target: target,
     }
-}
-
-// A step that is refused: the record as it was.
-fn refused(number: u8, t: Target) -> Done
-    ensures { λ r. ⌜ r ≡ record { number = number; answer = answer.Nothing; target = t } ⌝ }
-{
-    Done {
-        number,
-        answer: Answer::Nothing,
-        target: t,
-    }
-}
-
-// The record of an accepted setup.
-fn fresh_target(base: u32, size: u32, pids: [u32; 4], addresses: [u32; 4], count: u32) -> Target
-    ensures { λ r. ⌜ r ≡ setupTarget base size pids addresses count ⌝ }
-{
-    let none = Process {
-        pid: 0,
-        address: 0,
-        state: 0,
-        wanted: 0,
-    };
-    let mut processes = [none; 4];
-    let n = count as usize;
-    let mut i: usize = 0;
-    while i < 4 {
-        if i == n {
-            break;
-        }
-        processes[i] = Process {
-            pid: pids[i],
-            address: addresses[i],
-            state: 2,
-            wanted: 0,
-        };
-        i += 1;
-    }
-    let table = Table::new();
-    Target {
-        base,
-        size,
-        count,
-        processes: processes,
-        selected: 0,
-        current: 0,
-        table: table,
-    }
-}
-
-// Setup: a window of `size` bytes at `base`, and the first `count` pids and Proc addresses.
-pub fn setup(
-    base: u32,
-    size: u32,
-    pids: [u32; 4],
-    addresses: [u32; 4],
-    count: u32,
-    mem: &[u8],
-    regs: &[u8],
-) -> Done
-    ensures { λ r. ⌜ outcome (r .number) (r .answer) (world (r .target) (now (mem .entry)) (now (regs .entry))) [] ≡ setupOf base size pids addresses count (now (mem .entry)) (now (regs .entry)) ⌝ }
-{
-    let t = fresh_target(base, size, pids, addresses, count);
-    let ps = t.processes;
-    let empty = Target::empty();
-    if !fit::window_fit(base, size) {
-        return refused(1, empty);
-    }
-    if !fit::processes_fit(ps, count) {
-        return refused(1, empty);
-    }
-    if !steps::sizes_right(t, mem.len(), regs.len()) {
-        return refused(2, empty);
-    }
-    refused(0, t)
 }
 
 // A request of ten bytes, answered in ten.

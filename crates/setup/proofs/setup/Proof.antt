@@ -1,15 +1,13 @@
--- `stub::setup` meets its contract: the tests decide as the definition's do, over the record that is begun. Assumes nothing.
+-- `setup::setup` meets its contract: the tests decide as the definition's do. Assumes nothing.
 use borrow.Author.Needs.{needs}
 use Rattle.fit.proofs.Laws.{answered-yes, answered-no}
-use Rattle.stub.proofs.Laws.{setup-window, setup-processes, setup-sizes, setup-taken}
-use Rattle.stub.proofs.setup.Statement.{statement}
-use Rattle.stub.proofs.setup.Tie as tie
+use Rattle.rules.specs.Step.{setupTarget}
+use Rattle.setup.proofs.Laws.{setup-window, setup-processes, setup-sizes, setup-taken}
+use Rattle.setup.proofs.setup.Statement.{statement}
+use Rattle.setup.proofs.setup.Tie as tie
 
-fresh-target-requires : tie.Need-fresh-target-requires
-fresh-target-requires c κs = search needs
-
-empty-requires : tie.Need-empty-requires
-empty-requires c κs = search needs
+processes-of-requires : tie.Need-processes-of-requires
+processes-of-requires c κs = search needs
 
 window-fit-requires : tie.Need-window-fit-requires
 window-fit-requires c κs = search needs
@@ -19,11 +17,8 @@ refused-requires c κs = search needs
 
 returns : tie.Need-returns
 returns c =
-    let f = c .before .before in
-    let m = f .before in
-    rw (c .refused .ensures, m .empty .ensures)
-    (setup-window _ _ _ _ _ _ _ _ (m .before .before .fresh-target .ensures)
-    (answered-no _ _ (f .window-fit .ensures) (c .before .if1 .taken)))
+    rw (c .refused .ensures)
+    (setup-window _ _ _ _ _ _ _ (answered-no _ _ (c .before .before .window-fit .ensures) (c .before .if1 .taken)))
 
 processes-fit-requires : tie.Need-processes-fit-requires
 processes-fit-requires c κs = search needs
@@ -34,9 +29,8 @@ refused-requires-2 c κs = search needs
 returns-2 : tie.Need-returns-2
 returns-2 c =
     let f = c .before .before in
-    let m = f .before .before .before in
-    rw (c .refused2 .ensures, m .empty .ensures)
-    (setup-processes _ _ _ _ _ _ _ _ (m .before .before .fresh-target .ensures)
+    rw (c .refused2 .ensures)
+    (setup-processes _ _ _ _ _ _ _ _ (f .before .before .before .processes-of .ensures)
     (answered-no _ _ (f .processes-fit .ensures) (c .before .if2 .taken)))
 
 sizes-right-requires : tie.Need-sizes-right-requires
@@ -50,24 +44,23 @@ returns-3 c =
     let z = c .before .before in
     let f = z .before .before in
     let w = f .before .before in
-    let m = w .before in
-    rw (c .refused3 .ensures, m .empty .ensures)
-    (setup-sizes _ _ _ _ _ _ _ _ (m .before .before .fresh-target .ensures)
+    rw (c .refused3 .ensures)
+    (setup-sizes _ _ _ _ _ _ _ _ (w .before .processes-of .ensures)
     (answered-yes _ _ (w .window-fit .ensures) (f .before .if1 .left))
     (answered-yes _ _ (f .processes-fit .ensures) (z .before .if2 .left))
     (answered-no _ _ (z .sizes-right .ensures) (c .before .if3 .taken)))
 
-refused-requires-4 : tie.Need-refused-requires-4
-refused-requires-4 c κs = search needs
+new-requires : tie.Need-new-requires
+new-requires c κs = search needs
 
 returns-4 : tie.Need-returns-4
+unfolding setupTarget
 returns-4 c =
     let z = c .before .before in
     let f = z .before .before in
     let w = f .before .before in
-    let m = w .before in
-    rw (c .refused4 .ensures)
-    (setup-taken _ _ _ _ _ _ _ _ (m .before .before .fresh-target .ensures)
+    rw (c .new .ensures, w .before .processes-of .ensures)
+    (setup-taken _ _ _ _ _ _ _ _ (w .before .processes-of .ensures)
     (answered-yes _ _ (w .window-fit .ensures) (f .before .if1 .left))
     (answered-yes _ _ (f .processes-fit .ensures) (z .before .if2 .left))
     (answered-yes _ _ (z .sizes-right .ensures) (c .before .if3 .left)))
@@ -76,8 +69,7 @@ pub setup-spec : {M : Type 1} → statement M
 setup-spec =
     tie.close
     (tie.spec
-    fresh-target-requires
-    empty-requires
+    processes-of-requires
     window-fit-requires
     refused-requires
     returns
@@ -87,5 +79,5 @@ setup-spec =
     sizes-right-requires
     refused-requires-3
     returns-3
-    refused-requires-4
+    new-requires
     returns-4)
