@@ -119,7 +119,7 @@ pub fn setup(
     let p3 = ps[3];
     let pids = [p0.pid, p1.pid, p2.pid, p3.pid];
     let addresses = [p0.address, p1.address, p2.address, p3.address];
-    let d = stub::setup(t.base, t.size, pids, addresses, t.count, mem, regs);
+    let d = setup::setup(t.base, t.size, pids, addresses, t.count, mem, regs);
     give_whole(d)
 }
 
