@@ -175,6 +175,17 @@ fn step(
     }
 }
 
+fn ended(target: Target, used: usize, filled: usize, end: End) -> Ran
+    ensures { λ r. ⌜ r ≡ record { target = target; used = used; filled = filled; end = end } ⌝ }
+{
+    Ran {
+        target: target,
+        used,
+        filled,
+        end,
+    }
+}
+
 // Runs the steps of the input, one after the other, until it is used up or ends inside a step, another kind comes, or the
 // output has no room for a step.
 pub fn run(t: Target, mem: &mut [u8], regs: &mut [u8], input: &[u8], output: &mut [u8]) -> Ran
@@ -186,32 +197,17 @@ pub fn run(t: Target, mem: &mut [u8], regs: &mut [u8], input: &[u8], output: &mu
     let mut filled: usize = 0;
     while used < input.len() {
         if output.len() - filled < 11 {
-            return Ran {
-                target: u,
-                used,
-                filled,
-                end: End::Full,
-            };
+            return ended(u, used, filled, End::Full);
         }
         let kind = input[used];
         let n = body_of(kind);
         if 140 < n {
             output[filled] = 0xff;
-            return Ran {
-                target: u,
-                used: used + 1,
-                filled: filled + 1,
-                end: End::OtherKind,
-            };
+            return ended(u, used + 1, filled + 1, End::OtherKind);
         }
         let from = used + 1;
         if input.len() - from < n {
-            return Ran {
-                target: u,
-                used,
-                filled,
-                end: End::Cut,
-            };
+            return ended(u, used, filled, End::Cut);
         }
         let done = step(
             u,
@@ -225,10 +221,5 @@ pub fn run(t: Target, mem: &mut [u8], regs: &mut [u8], input: &[u8], output: &mu
         filled += done.filled;
         used = from + n;
     }
-    Ran {
-        target: u,
-        used,
-        filled,
-        end: End::UsedUp,
-    }
+    ended(u, used, filled, End::UsedUp)
 }

@@ -48,19 +48,23 @@ came c = c .before .before .before .before .before .before .before .before .befo
 sub-if1 : tie.Need-sub-if1 Inv-loop μ-loop
 sub-if1 c = search needs
 
+ended-requires : tie.Need-ended-requires Inv-loop μ-loop
+ended-requires c κs = search needs
+
 same-length : tie.Need-same-length Inv-loop μ-loop
-same-length c = c .before .before .loop .inv .1
+same-length c = c .before .before .before .loop .inv .1
 
 same-length-2 : tie.Need-same-length-2 Inv-loop μ-loop
-same-length-2 c = c .before .before .loop .inv .2
+same-length-2 c = c .before .before .before .loop .inv .2
 
 same-length-3 : tie.Need-same-length-3 Inv-loop μ-loop
-same-length-3 c = c .before .before .loop .inv .0 .same
+same-length-3 c = c .before .before .before .loop .inv .0 .same
 
 returns : tie.Need-returns Inv-loop μ-loop
 returns c =
-    let o = c .before .before .loop in
-    with-book _ _ _ _ _ _ _ _ _ _ (out-full _ _ _ _ _ _ _ (o .inv .0) (c .before .loop-test .taken) (omega arith))
+    let o = c .before .before .before .loop in
+    rw (c .ended .ensures)
+    (with-book _ _ _ _ _ _ _ _ _ _ (out-full _ _ _ _ _ _ _ (o .inv .0) (c .before .before .loop-test .taken) (omega arith)))
 
 shared-slice-read-kind : tie.Need-shared-slice-read-kind Inv-loop μ-loop
 shared-slice-read-kind c = search needs
@@ -71,26 +75,30 @@ body-of-requires c κs = tt
 slice-write-output : tie.Need-slice-write-output Inv-loop μ-loop
 slice-write-output c = search needs
 
-add-t20 : tie.Need-add-t20 Inv-loop μ-loop
-add-t20 c = search needs
+add-ended : tie.Need-add-ended Inv-loop μ-loop
+add-ended c = search needs
 
-add-t21 : tie.Need-add-t21 Inv-loop μ-loop
-add-t21 c = search needs
+add-ended-2 : tie.Need-add-ended-2 Inv-loop μ-loop
+add-ended-2 c = search needs
+
+ended-requires-2 : tie.Need-ended-requires-2 Inv-loop μ-loop
+ended-requires-2 c κs = search needs
 
 same-length-4 : tie.Need-same-length-4 Inv-loop μ-loop
-same-length-4 c = c .before .before .before .before .before .loop .inv .1
+same-length-4 c = c .before .before .before .before .before .before .loop .inv .1
 
 same-length-5 : tie.Need-same-length-5 Inv-loop μ-loop
-same-length-5 c = c .before .before .before .before .before .loop .inv .2
+same-length-5 c = c .before .before .before .before .before .before .loop .inv .2
 
 same-length-6 : tie.Need-same-length-6 Inv-loop μ-loop
-same-length-6 c = let o = c .before .before .before .before .before .loop in length-set (o .output) (o .filled) 0xff ∙ o .inv .0 .same
+same-length-6 c = let o = c .before .before .before .before .before .before .loop in length-set (o .output) (o .filled) 0xff ∙ o .inv .0 .same
 
 returns-2 : tie.Need-returns-2 Inv-loop μ-loop
 returns-2 c =
-    let o = c .before .before .before .before .before .loop in
-    with-book _ _ _ _ _ _ _ _ _ _
-    (out-other _ _ _ _ _ _ _ (o .inv .0) (c .before .before .before .before .loop-test .taken) (omega arith) (omega arith))
+    let o = c .before .before .before .before .before .before .loop in
+    rw (c .ended2 .ensures)
+    (with-book _ _ _ _ _ _ _ _ _ _
+    (out-other _ _ _ _ _ _ _ (o .inv .0) (c .before .before .before .before .before .loop-test .taken) (omega arith) (omega arith)))
 
 add-from : tie.Need-add-from Inv-loop μ-loop
 add-from c = search needs
@@ -98,21 +106,25 @@ add-from c = search needs
 sub-if3 : tie.Need-sub-if3 Inv-loop μ-loop
 sub-if3 c = search needs
 
+ended-requires-3 : tie.Need-ended-requires-3 Inv-loop μ-loop
+ended-requires-3 c κs = search needs
+
 same-length-7 : tie.Need-same-length-7 Inv-loop μ-loop
-same-length-7 c = c .before .before .before .before .before .before .loop .inv .1
+same-length-7 c = c .before .before .before .before .before .before .before .loop .inv .1
 
 same-length-8 : tie.Need-same-length-8 Inv-loop μ-loop
-same-length-8 c = c .before .before .before .before .before .before .loop .inv .2
+same-length-8 c = c .before .before .before .before .before .before .before .loop .inv .2
 
 same-length-9 : tie.Need-same-length-9 Inv-loop μ-loop
-same-length-9 c = c .before .before .before .before .before .before .loop .inv .0 .same
+same-length-9 c = c .before .before .before .before .before .before .before .loop .inv .0 .same
 
 returns-3 : tie.Need-returns-3 Inv-loop μ-loop
 returns-3 c =
-    let o = c .before .before .before .before .before .before .loop in
-    with-book _ _ _ _ _ _ _ _ _ _
-    (out-cut _ _ _ _ _ _ _ (o .inv .0) (c .before .before .before .before .before .loop-test .taken) (omega arith) _
-    (c .before .before .body-of .ensures) (omega arith) (omega arith))
+    let o = c .before .before .before .before .before .before .before .loop in
+    rw (c .ended3 .ensures)
+    (with-book _ _ _ _ _ _ _ _ _ _
+    (out-cut _ _ _ _ _ _ _ (o .inv .0) (c .before .before .before .before .before .before .loop-test .taken) (omega arith) _
+    (c .before .before .before .body-of .ensures) (omega arith) (omega arith)))
 
 add-step : tie.Need-add-step Inv-loop μ-loop
 add-step c = search needs
@@ -171,19 +183,23 @@ loop-again c =
       c .before .before .before .before .before .regs .given ∙ o .inv .2,
     )
 
+ended-requires-4 : tie.Need-ended-requires-4 Inv-loop μ-loop
+ended-requires-4 c κs = search needs
+
 same-length-10 : tie.Need-same-length-10 Inv-loop μ-loop
-same-length-10 c = c .before .loop .inv .1
+same-length-10 c = c .before .before .loop .inv .1
 
 same-length-11 : tie.Need-same-length-11 Inv-loop μ-loop
-same-length-11 c = c .before .loop .inv .2
+same-length-11 c = c .before .before .loop .inv .2
 
 same-length-12 : tie.Need-same-length-12 Inv-loop μ-loop
-same-length-12 c = c .before .loop .inv .0 .same
+same-length-12 c = c .before .before .loop .inv .0 .same
 
 returns-4 : tie.Need-returns-4 Inv-loop μ-loop
 returns-4 c =
-    let o = c .before .loop in
-    with-book _ _ _ _ _ _ _ _ _ _ (out-used-up _ _ _ _ _ _ _ (o .inv .0) (omega arith))
+    let o = c .before .before .loop in
+    rw (c .ended4 .ensures)
+    (with-book _ _ _ _ _ _ _ _ _ _ (out-used-up _ _ _ _ _ _ _ (o .inv .0) (omega arith)))
 
 pub run-spec : {M : Type 1} → statement M
 run-spec =
@@ -193,6 +209,7 @@ run-spec =
     μ-loop
     loop-holds
     sub-if1
+    ended-requires
     same-length
     same-length-2
     same-length-3
@@ -200,14 +217,16 @@ run-spec =
     shared-slice-read-kind
     body-of-requires
     slice-write-output
-    add-t20
-    add-t21
+    add-ended
+    add-ended-2
+    ended-requires-2
     same-length-4
     same-length-5
     same-length-6
     returns-2
     add-from
     sub-if3
+    ended-requires-3
     same-length-7
     same-length-8
     same-length-9
@@ -224,6 +243,7 @@ run-spec =
     add-used
     loop-less
     loop-again
+    ended-requires-4
     same-length-10
     same-length-11
     same-length-12
