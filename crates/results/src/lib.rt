@@ -67,16 +67,49 @@ fn touched_by(c: Change) -> Touched
     };
     match c {
         Change::Same => none,
-        Change::Plain => Touched { plains: true, ..none },
-        Change::Current(_) => Touched { beside: true, ..none },
-        Change::State(_, _, _) => Touched { beside: true, ..none },
-        Change::Begin(_) => Touched { draft: true, ..none },
-        Change::Add(_, _) => Touched { draft: true, ..none },
-        Change::Drop => Touched { draft: true, ..none },
-        Change::Plant(_, _, _) => Touched { entry: true, draft: true, ..none },
-        Change::Remove(_) => Touched { entry: true, ..none },
-        Change::Start(_, _) => Touched { beside: true, entry: true, ..none },
-        Change::Restart => Touched { beside: true, fresh: true, ..none },
+        Change::Plain => Touched {
+            plains: true,
+            ..none
+        },
+        Change::Current(_) => Touched {
+            beside: true,
+            ..none
+        },
+        Change::State(_, _, _) => Touched {
+            beside: true,
+            ..none
+        },
+        Change::Begin(_) => Touched {
+            draft: true,
+            ..none
+        },
+        Change::Add(_, _) => Touched {
+            draft: true,
+            ..none
+        },
+        Change::Drop => Touched {
+            draft: true,
+            ..none
+        },
+        Change::Plant(_, _, _) => Touched {
+            entry: true,
+            draft: true,
+            ..none
+        },
+        Change::Remove(_) => Touched {
+            entry: true,
+            ..none
+        },
+        Change::Start(_, _) => Touched {
+            beside: true,
+            entry: true,
+            ..none
+        },
+        Change::Restart => Touched {
+            beside: true,
+            fresh: true,
+            ..none
+        },
     }
 }
 
