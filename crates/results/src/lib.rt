@@ -55,61 +55,36 @@ fn give_whole(d: Done) -> Whole
     }
 }
 
+impl Touched {
+    fn of(beside: bool, entry: bool, plains: bool, fresh: bool, draft: bool) -> Touched
+        ensures { λ r. ⌜ r ≡ record { beside = beside; entry = entry; plains = plains; fresh = fresh; draft = draft } ⌝ }
+    {
+        Touched {
+            beside,
+            entry,
+            plains,
+            fresh,
+            draft,
+        }
+    }
+}
+
+// The flags stand in the order of the fields. A fresh table has nothing in hand already.
 fn touched_by(c: Change) -> Touched
     ensures { λ r. ⌜ r ≡ touchedOf c ⌝ }
 {
-    let none = Touched {
-        beside: false,
-        entry: false,
-        plains: false,
-        fresh: false,
-        draft: false,
-    };
     match c {
-        Change::Same => none,
-        Change::Plain => Touched {
-            plains: true,
-            ..none
-        },
-        Change::Current(_) => Touched {
-            beside: true,
-            ..none
-        },
-        Change::State(_, _, _) => Touched {
-            beside: true,
-            ..none
-        },
-        Change::Begin(_) => Touched {
-            draft: true,
-            ..none
-        },
-        Change::Add(_, _) => Touched {
-            draft: true,
-            ..none
-        },
-        Change::Drop => Touched {
-            draft: true,
-            ..none
-        },
-        Change::Plant(_, _, _) => Touched {
-            entry: true,
-            draft: true,
-            ..none
-        },
-        Change::Remove(_) => Touched {
-            entry: true,
-            ..none
-        },
-        Change::Start(_, _) => Touched {
-            beside: true,
-            entry: true,
-            ..none
-        },
-        Change::Restart => Touched {
-            beside: true,
-            fresh: true,
-            ..none
-        },
+        Change::Same => Touched::of(false, false, false, false, false),
+        Change::Plain => Touched::of(false, false, true, false, false),
+        Change::Current(_) => Touched::of(true, false, false, false, false),
+        Change::State(_, _, _) => Touched::of(true, false, false, false, false),
+        Change::Begin(_) => Touched::of(false, false, false, false, true),
+        Change::Add(_, _) => Touched::of(false, false, false, false, true),
+        Change::Drop => Touched::of(false, false, false, false, true),
+        Change::Plant(_, _, _) => Touched::of(false, true, false, false, true),
+        Change::Remove(_) => Touched::of(false, true, false, false, false),
+        Change::Start(_, _) => Touched::of(true, true, false, false, false),
+        Change::Restart => Touched::of(true, false, false, true, false),
     }
 }
 
