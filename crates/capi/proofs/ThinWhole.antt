@@ -43,21 +43,14 @@ use Rattle.results.specs.declared.Whole.{Whole}
 use Rattle.results.proofs.Whole as D
 use Rattle.results.proofs.Whole.Laws as D′
 use Rattle.results.proofs.setup as inner
+use Rattle.lent.proofs.Lent.{slice, record-ref, record-slot, bytes, kept, given, goes-bytes, goes-read, goes-u8, goes-u32}
+use Rattle.lent.proofs.Stores.{mach}
+use Rattle.capi.proofs.PassOn.{OneKind, passed}
 use Rattle.capi.proofs.sanirvoq_step_setup as f
 
+-- the record stays lent, the `&mut` slices are given up, and the rest stays
 abbrev stayed : Stays (f.ended .signature .params) (f.ended .kept)
-stayed = (stay-ref (0 ∷ []) tt (plain (λ _. T.the-row)), (gave-slice (1 ∷ []) tt (plain (λ _. u8)), (gave-slice (2 ∷ []) tt (plain (λ _. u8)), (stay-none (λ _. u32) yes, (stay-none (λ _. u8) yes, (stay-none-slice (3 ∷ []) tt (plain (λ _. u8)) yes, (gave-slice (4 ∷ []) tt (plain (λ _. u8)), tt)))))))
-
--- the machine value of a record
-abbrev mach : Target → Val
-mach h = LL.tuple-val T.the-type T′.the-laws (T.the-type .to h)
-
--- what a step relates: the record and the other parameters at entry, in their order, and the number, the record and the `&mut` slices at exit
-abbrev pub Rel : Type 1
-Rel = Target → List ℕ → List ℕ → ℕ → ℕ → List ℕ → List ℕ → ℕ → Target → List ℕ → List ℕ → List ℕ → Type 0
-
-abbrev slice : Lifetime → Mutability → Ty
-slice ℓ m = tyStruct (38 ∷ 91 ∷ 93 ∷ []) (tcons (tyRef ℓ m (tyInt w8)) (tcons (tyInt w64) tnil))
+stayed = (stay-ref (0 ∷ []) tt record-slot, (given 1 tt, (given 2 tt, (kept u32, (kept u8, (stay-none-slice (3 ∷ []) tt bytes yes, (given 4 tt, tt)))))))
 
 -- the MIR of such a function
 abbrev pub thin : Name → Fn
@@ -65,29 +58,22 @@ thin c = record {
   lifetimes = 5;
   outlives = [];
   params = 7;
-  locals = map (λ τ. local τ valueLocal) (tyInt w32 ∷ tyRef (named 0) mut (pointee (T.the-row .written)) ∷ slice (named 1) mut ∷ slice (named 2) mut ∷ tyInt w32 ∷ tyInt w8 ∷ slice (named 3) imm ∷ slice (named 4) mut ∷ D′.mir ∷ T′.mir ∷ tyRef erased mut (tyInt w8) ∷ slice erased mut ∷ tyRef erased mut (tyInt w8) ∷ slice erased mut ∷ tyRef erased mut (tyInt w8) ∷ slice erased mut ∷ []);
+  locals = map (λ τ. local τ valueLocal) (tyInt w32 ∷ record-ref (named 0) ∷ slice (named 1) mut ∷ slice (named 2) mut ∷ tyInt w32 ∷ tyInt w8 ∷ slice (named 3) imm ∷ slice (named 4) mut ∷ D′.mir ∷ T′.mir ∷ tyRef erased mut (tyInt w8) ∷ slice erased mut ∷ tyRef erased mut (tyInt w8) ∷ slice erased mut ∷ tyRef erased mut (tyInt w8) ∷ slice erased mut ∷ []);
   body = seq (assign (place 9 []) (rvOpd (copy (place 1 (deref T′.mir ∷ []))))) (seq (assign (place 10 []) (addrOf (place 2 (field 0 ∷ deref (tyInt w8) ∷ [])))) (seq (assign (place 11 []) (aggregate (copy (place 10 []) ∷ copy (place 2 (field 1 ∷ [])) ∷ []))) (seq (assign (place 12 []) (addrOf (place 3 (field 0 ∷ deref (tyInt w8) ∷ [])))) (seq (assign (place 13 []) (aggregate (copy (place 12 []) ∷ copy (place 3 (field 1 ∷ [])) ∷ []))) (seq (assign (place 14 []) (addrOf (place 7 (field 0 ∷ deref (tyInt w8) ∷ [])))) (seq (assign (place 15 []) (aggregate (copy (place 14 []) ∷ copy (place 7 (field 1 ∷ [])) ∷ []))) (seq (call c (copy (place 9 []) ∷ copy (place 11 []) ∷ copy (place 13 []) ∷ copy (place 4 []) ∷ copy (place 5 []) ∷ copy (place 6 []) ∷ copy (place 15 []) ∷ []) (place 8 [])) (seq (assign (place 1 (deref T′.mir ∷ [])) (rvOpd (copy (place 8 (field 1 ∷ []))))) (seq (assign (place 0 []) (rvOpd (copy (place 8 (field 0 ∷ []))))) return)))))))));
 }
 
--- the contracts of the two at a relation: of the function that lends the record, and of the one that takes it by value
-abbrev pub lent : Rel → {M : Type 1} (𝓤 : URA M) → Clauses 𝓤 f.ended
-lent φ 𝓤 κs a = record {
-  ghost = Unit {0};
-  requires = λ g. emp 𝓤;
-  ensures = λ g r e. fact 𝓤 (φ (a .0 .now) (a .1 .0 .now) (a .1 .1 .0 .now) (a .1 .1 .1 .0) (a .1 .1 .1 .1 .0) (a .1 .1 .1 .1 .1 .0 .now) (a .1 .1 .1 .1 .1 .1 .0 .now) r (e .0 .now) (e .1 .0 .now) (e .1 .1 .0 .now) (e .1 .1 .1 .1 .1 .1 .0 .now));
-}
-
-abbrev pub by-value : Rel → {M : Type 1} (𝓤 : URA M) → Clauses 𝓤 inner.ended
+-- the contract of the function that takes the record by value, at a relation
+abbrev pub by-value : OneKind → {M : Type 1} (𝓤 : URA M) → Clauses 𝓤 inner.ended
 by-value φ 𝓤 κs a = record {
   ghost = Unit {0};
   requires = λ g. emp 𝓤;
   ensures = λ g r e. fact 𝓤 (φ (a .0) (a .1 .0 .now) (a .1 .1 .0 .now) (a .1 .1 .1 .0) (a .1 .1 .1 .1 .0) (a .1 .1 .1 .1 .1 .0 .now) (a .1 .1 .1 .1 .1 .1 .0 .now) (r .result) (r .target) (e .1 .0 .now) (e .1 .1 .0 .now) (e .1 .1 .1 .1 .1 .1 .0 .now));
 }
 
-abbrev pub Inner : Rel → {M : Type 1} (𝓤 : URA M) (H : Heap 𝓤) (A : Atoms 𝓤) → Contract 𝓤
+abbrev pub Inner : OneKind → {M : Type 1} (𝓤 : URA M) (H : Heap 𝓤) (A : Atoms 𝓤) → Contract 𝓤
 Inner φ 𝓤 H A = tripleOf 𝓤 H A inner.signature (closing 𝓤 H A inner.ended (by-value φ 𝓤))
 
-module _ {M : Type 1} (𝓤 : URA M) (H : Heap 𝓤) (A : Atoms 𝓤) (W : Given 𝓤 H A) (φ : Rel) (c : Name) (κ κ₁ κ₂ κ₃ κ₄ : Lft) (q q₁ q₂ q₃ q₄ : Share)
+module _ {M : Type 1} (𝓤 : URA M) (H : Heap 𝓤) (A : Atoms 𝓤) (W : Given 𝓤 H A) (φ : OneKind) (c : Name) (κ κ₁ κ₂ κ₃ κ₄ : Lft) (q q₁ q₂ q₃ q₄ : Share)
     (b o : ℕ) (γ : GName) (h : Target) (b₁ o₁ : ℕ) (γ₁ : GName) (y₁ : List ℕ) (b₂ o₂ : ℕ) (γ₂ : GName) (y₂ : List ℕ) (b₅ o₅ : ℕ) (γ₅ : GName) (y₅ : List ℕ) (b₆ o₆ : ℕ) (γ₆ : GName) (y₆ : List ℕ) (n₃ n₄ : ℕ) (n₃-fits : n₃ < 2 ^ 32) (n₄-fits : n₄ < 2 ^ 8) where
   abbrev x₁ : RefT (List ℕ)
   x₁ = record { ptr = (b₁, o₁); name = γ₁; now = y₁ }
@@ -132,7 +118,7 @@ module _ {M : Type 1} (𝓤 : URA M) (H : Heap 𝓤) (A : Atoms 𝓤) (W : Given
   vals = (vptr b o ∷ [], rest-vals)
 
   abbrev Post : Val → SProp 𝓤
-  Post = walkOf 𝓤 H A f.ended stayed (lent φ 𝓤) .post (((κ, (κ₁, (κ₂, (κ₃, (κ₄, tt))))), (q, (q₁, (q₂, (q₃, (q₄, tt))))), tt, a, vals), tt)
+  Post = walkOf 𝓤 H A f.ended stayed (passed φ 𝓤) .post (((κ, (κ₁, (κ₂, (κ₃, (κ₄, tt))))), (q, (q₁, (q₂, (q₃, (q₄, tt))))), tt, a, vals), tt)
 
   -- what the callee's triple binds outside: the slices' own lifetimes, shares and values, and the record by value
   abbrev to-inner : Inner φ 𝓤 H A .Ghost
@@ -150,7 +136,7 @@ module _ {M : Type 1} (𝓤 : URA M) (H : Heap 𝓤) (A : Atoms 𝓤) (W : Given
       → ent 𝓤 (⋆ 𝓤 H A (‵ (fobs γ (T.the-row .coded .code (r .target))) ∷ ‵ (fbor κ (Body (mem T.the-row) b o γ)) ∷ ‵ (flft κ q) ∷ (‵ (flft κ₁ q₁) ⊛ ‵ (flft κ₂ q₂) ⊛ ‵ (flft κ₃ q₃) ⊛ ‵ (flft κ₄ q₄) ⊛ ‵ ftrue) ∷ ‵ (finally u8 γ₁ z₁) ∷ ‵ (finally u8 γ₂ z₂) ∷ ‵ (finally u8 γ₆ z₆) ∷ ‵ (ShrSlice (named 2) κ₃ u8 .own x₅ (s₅ ∷ [])) ∷ [])) (Post (vint w32 (r .result)))
   exits r z₁ z₂ z₆ e l₁ l₂ l₆ n-fits =
       qed W (‵ (fobs γ (T.the-row .coded .code (r .target))) ∷ ‵ (fbor κ (Body (mem T.the-row) b o γ)) ∷ ‵ (flft κ q) ∷ (‵ (flft κ₁ q₁) ⊛ ‵ (flft κ₂ q₂) ⊛ ‵ (flft κ₃ q₃) ⊛ ‵ (flft κ₄ q₄) ⊛ ‵ ftrue) ∷ ‵ (finally u8 γ₁ z₁) ∷ ‵ (finally u8 γ₂ z₂) ∷ ‵ (finally u8 γ₆ z₆) ∷ ‵ (ShrSlice (named 2) κ₃ u8 .own x₅ (s₅ ∷ [])) ∷ []) ∵
-      suffices ! _ (ends-at 𝓤 H A f.ended stayed (lent φ 𝓤) W (((κ, (κ₁, (κ₂, (κ₃, (κ₄, tt))))), (q, (q₁, (q₂, (q₃, (q₄, tt))))), tt, a, vals), tt) (vint w32 (r .result)) (r .result) (r .target, (z₁, (z₂, (tt, (tt, (tt, (z₆, tt))))))) (tt, (l₁, (l₂, (tt, (tt, (tt, (l₆, tt)))))))) $ says ! e $
+      suffices ! _ (ends-at 𝓤 H A f.ended stayed (passed φ 𝓤) W (((κ, (κ₁, (κ₂, (κ₃, (κ₄, tt))))), (q, (q₁, (q₂, (q₃, (q₄, tt))))), tt, a, vals), tt) (vint w32 (r .result)) (r .result) (r .target, (z₁, (z₂, (tt, (tt, (tt, (z₆, tt))))))) (tt, (l₁, (l₂, (tt, (tt, (tt, (l₆, tt)))))))) $ says ! e $
       move ! (2 ∷ 3 ∷ []) $ join ! $ frame ! $ feqI ! (List Val) (vptr b o ∷ []) (vptr b o ∷ []) refl $ fjoin3 ! $ nothing ! $ move ! (4 ∷ 0 ∷ []) $ fjoin ! $ move ! (4 ∷ 0 ∷ []) $ fjoin ! $ owned ! u8 (Is u8) (uint-makes 𝓤 H A W w8) n₄ _ (refl, n₄-fits) $ fjoin ! $ owned ! u32 (Is u32) (uint-makes 𝓤 H A W w32) n₃ _ (refl, n₃-fits) $ fjoin ! $ move ! (3 ∷ 0 ∷ []) $ fjoin ! $ move ! (2 ∷ 0 ∷ []) $ fjoin ! $ move ! (1 ∷ 0 ∷ []) $ fjoin ! $ owned ! u32 (Is u32) (uint-makes 𝓤 H A W w32) (r .result) _ (refl, n-fits) $ move ! (1 ∷ 0 ∷ []) $ done !
 
   module _ (C : Calls 𝓤 H) (Λ : Loops 𝓤 H) (fm : FmC 𝓤 H (W .laws) C) (known : Triple 𝓤 (C c) (Inner φ 𝓤 H A)) where
@@ -188,9 +174,9 @@ module _ {M : Type 1} (𝓤 : URA M) (H : Heap 𝓤) (A : Atoms 𝓤) (W : Given
         move ! (8 ∷ []) $ use1 W (‵ (cellAt fullShare (T.the-row .mir) (mach (r .target) ∷ []) b o)) (W .laws .at-raw fullShare T′.mir b o (mach (r .target))) $ move ! (0 ∷ 1 ∷ 9 ∷ 10 ∷ 11 ∷ []) $
         closes ! tt T.the-row (r .target) (mach (r .target) ∷ []) b o $ returns ! (look ! 40 refl) $ forget ! 10 refl $ forget ! 12 refl $ forget ! 14 refl $ forget ! 16 refl $ forget ! 18 refl $ forget ! 20 refl $ forget ! 22 refl $ forget ! 24 refl $ forget ! 26 refl $ forget ! 28 refl $ forget ! 30 refl $ forget ! 32 refl $ forget ! 34 refl $ forget ! 36 refl $ forget ! 38 refl $ forget ! 40 refl $ move ! (40 ∷ 41 ∷ []) $ free1 ! $ move ! (38 ∷ 39 ∷ []) $ free1 ! $ move ! (36 ∷ 37 ∷ []) $ free1 ! $ move ! (34 ∷ 35 ∷ []) $ free1 ! $ move ! (32 ∷ 33 ∷ []) $ free1 ! $ move ! (30 ∷ 31 ∷ []) $ free1 ! $ move ! (28 ∷ 29 ∷ []) $ free1 ! $ move ! (26 ∷ 27 ∷ []) $ free1 ! $ move ! (24 ∷ 25 ∷ []) $ free1 ! $ move ! (22 ∷ 23 ∷ []) $ free1 ! $ move ! (20 ∷ 21 ∷ []) $ free1 ! $ move ! (18 ∷ 19 ∷ []) $ free1 ! $ move ! (16 ∷ 17 ∷ []) $ free1 ! $ move ! (14 ∷ 15 ∷ []) $ free1 ! $ move ! (12 ∷ 13 ∷ []) $ free1 ! $ move ! (10 ∷ 11 ∷ []) $ free1 ! $ free0 ! $ keep ! (0 ∷ 1 ∷ 2 ∷ 4 ∷ 8 ∷ 7 ∷ 6 ∷ 9 ∷ []) $ by ! (exits r (ws .1 .0) (ws .1 .1 .0) (ws .1 .1 .1 .1 .1 .1 .0) e l₁ l₂ l₆ (LL.owed D.the-type D′.the-laws r _ is .0 .1))))))))))))))))))))))))))))
 
-module _ {M : Type 1} (𝓤 : URA M) (H : Heap 𝓤) (A : Atoms 𝓤) (W : Given 𝓤 H A) (φ : Rel) (c : Name) where
-  thin-walks : (C : Calls 𝓤 H) (Λ : Loops 𝓤 H) → FmC 𝓤 H (W .laws) C → Triple 𝓤 (C c) (Inner φ 𝓤 H A) → Walks 𝓤 H A f.ended stayed (WpFn 𝓤 H C Λ (thin c)) (lent φ 𝓤)
-  thin-walks C Λ fm known = walked 𝓤 H A f.ended stayed (lent φ 𝓤) (WpFn 𝓤 H C Λ (thin c))
+module _ {M : Type 1} (𝓤 : URA M) (H : Heap 𝓤) (A : Atoms 𝓤) (W : Given 𝓤 H A) (φ : OneKind) (c : Name) where
+  thin-walks : (C : Calls 𝓤 H) (Λ : Loops 𝓤 H) → FmC 𝓤 H (W .laws) C → Triple 𝓤 (C c) (Inner φ 𝓤 H A) → Walks 𝓤 H A f.ended stayed (WpFn 𝓤 H C Λ (thin c)) (passed φ 𝓤)
+  thin-walks C Λ fm known = walked 𝓤 H A f.ended stayed (passed φ 𝓤) (WpFn 𝓤 H C Λ (thin c))
       (λ κs. (ptr-vals, (slice-vals, (slice-vals, (uint-vals w32, (uint-vals w8, (slice-vals, (slice-vals, tt))))))))
       (λ κs. (mut-tells (named 0) (κs .0) T.the-row, (mut-slice-tells (named 1) (κs .1 .0) u8, (mut-slice-tells (named 2) (κs .1 .1 .0) u8, (uint-tells w32, (uint-tells w8, (shr-slice-tells (named 3) (κs .1 .1 .1 .0) u8, (mut-slice-tells (named 4) (κs .1 .1 .1 .1 .0) u8, tt))))))))
       (λ κs qs bounds a g are. via 𝓤 _ (fst∗ 𝓤 _ (emp 𝓤)) (walk 𝓤 H A W φ c (κs .0) (κs .1 .0) (κs .1 .1 .0) (κs .1 .1 .1 .0) (κs .1 .1 .1 .1 .0) (qs .0) (qs .1 .0) (qs .1 .1 .0) (qs .1 .1 .1 .0) (qs .1 .1 .1 .1 .0)
@@ -198,10 +184,11 @@ module _ {M : Type 1} (𝓤 : URA M) (H : Heap 𝓤) (A : Atoms 𝓤) (W : Given
       (a .1 .1 .1 .0) (a .1 .1 .1 .1 .0) (are .1 .1 .1 .0 .1) (are .1 .1 .1 .1 .0 .1) C Λ fm known (are .1 .0 .0 .1) (are .1 .1 .0 .0 .1) (are .1 .1 .1 .1 .1 .0 .0 .1) (are .1 .1 .1 .1 .1 .1 .0 .0 .1)))
 
   goes-all : AllGo 𝓤 H A W 5 (f.signature .params) (f.ended .kept) stayed
-  goes-all = (goes-ref 𝓤 H A W 5 0 tt (plain (λ _. T.the-row)), (goes-gave-slice 𝓤 H A W 5 1 tt (plain (λ _. u8)), (goes-gave-slice 𝓤 H A W 5 2 tt (plain (λ _. u8)), (goes-none 𝓤 H A W 5 (λ _. u32) yes (λ κs x f. refl), (goes-none 𝓤 H A W 5 (λ _. u8) yes (λ κs x f. refl), (goes-none-slice 𝓤 H A W 5 (3 ∷ []) tt (plain (λ _. u8)) yes, (goes-gave-slice 𝓤 H A W 5 4 tt (plain (λ _. u8)), tt)))))))
+  goes-all =
+      (goes-ref 𝓤 H A W 5 0 tt record-slot, (goes-bytes 𝓤 H A W 1 tt, (goes-bytes 𝓤 H A W 2 tt, (goes-u32 𝓤 H A W, (goes-u8 𝓤 H A W, (goes-read 𝓤 H A W, (goes-bytes 𝓤 H A W 4 tt, tt)))))))
 
-pub thin-meets : {M : Type 1} (𝓤 : URA M) (H : Heap 𝓤) (A : Atoms 𝓤) → Given 𝓤 H A → (φ : Rel) (c : Name) (𝓣 : Tables 𝓤 H) → Triple 𝓤 (𝓣 .C c) (Inner φ 𝓤 H A)
-    → Meets 𝓤 H A f.signature (WpFn 𝓤 H (𝓣 .C) (𝓣 .Λ) (thin c)) (closing 𝓤 H A f.ended (lent φ 𝓤))
+pub thin-meets : {M : Type 1} (𝓤 : URA M) (H : Heap 𝓤) (A : Atoms 𝓤) → Given 𝓤 H A → (φ : OneKind) (c : Name) (𝓣 : Tables 𝓤 H) → Triple 𝓤 (𝓣 .C c) (Inner φ 𝓤 H A)
+    → Meets 𝓤 H A f.signature (WpFn 𝓤 H (𝓣 .C) (𝓣 .Λ) (thin c)) (closing 𝓤 H A f.ended (passed φ 𝓤))
 thin-meets 𝓤 H A W φ c 𝓣 known =
-    walk-meets 𝓤 H A f.ended stayed W (goes-all 𝓤 H A W φ c) (lent φ 𝓤)
+    walk-meets 𝓤 H A f.ended stayed W (goes-all 𝓤 H A W φ c) (passed φ 𝓤)
     (WpFn 𝓤 H (𝓣 .C) (𝓣 .Λ) (thin c)) (WpFn-mono 𝓤 H (W .laws) 𝓣 (thin c)) (thin-walks 𝓤 H A W φ c (𝓣 .C) (𝓣 .Λ) (fmOf 𝓤 H (W .laws) 𝓣) known)

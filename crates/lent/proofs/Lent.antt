@@ -57,6 +57,7 @@ use Rattle.steps.specs.Kinds.{stepBy}
 use Rattle.parts.proofs.Left as D
 use Rattle.parts.proofs.Left.Laws as D′
 use Rattle.results.proofs.step_of as inner
+use Rattle.lent.proofs.Stores.{mach, machᴰ}
 use Rattle.lent.proofs.store as store
 use Rattle.lent.proofs.step as f
 
@@ -79,13 +80,7 @@ given j ok = gave-slice (j ∷ []) ok bytes
 abbrev stayed : Stays (f.ended .signature .params) (f.ended .kept)
 stayed = (gave-ref (0 ∷ []) tt record-slot, (kept u8, (given 1 tt, (given 2 tt, (kept u32, (kept u8, (stay-none-slice (3 ∷ []) tt bytes yes, (given 4 tt, tt))))))))
 
--- the machine value of a record, of what a step leaves, and of a slice
-abbrev mach : Target → Val
-mach h = LL.tuple-val T.the-type T′.the-laws (T.the-type .to h)
-
-abbrev machᴰ : Left → Val
-machᴰ d = LL.tuple-val D.the-type D′.the-laws (D.the-type .to d)
-
+-- the machine value of a slice
 abbrev pub spelled : RefT (List ℕ) → Val
 spelled x = sliceVal (x .ptr) (length (x .now))
 

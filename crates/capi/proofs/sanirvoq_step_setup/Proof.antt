@@ -6,7 +6,8 @@ use denote.Triple.Table.{entered, cited}
 use Rattle.rules.specs.Outcome.{world}
 use Rattle.steps.specs.Kinds.{leaving}
 use Rattle.results.specs.Seen.{seen, seenOf, setupFrom}
-use Rattle.capi.proofs.ThinWhole.{Rel, Inner, thin-meets}
+use Rattle.capi.proofs.PassOn.{OneKind}
+use Rattle.capi.proofs.ThinWhole.{Inner, thin-meets}
 use Rattle.results.proofs.setup.Symbol as inner-def
 use Rattle.results.proofs.setup.Symbol.{name as #inner}
 use Rattle.results.proofs.setup.Met as inner-thm
@@ -15,7 +16,7 @@ use Rattle.capi.proofs.sanirvoq_step_setup as f
 use Rattle.capi.proofs.sanirvoq_step_setup.Statement as stated
 use Rattle.capi.proofs.sanirvoq_step_setup.Code as code
 
-abbrev φ : Rel
+abbrev φ : OneKind
 φ h ms gs p v i os n h′ ms′ gs′ os′ = seen n h′ ms′ gs′ os′ ≡ seenOf (leaving os (setupFrom (world h ms gs)))
 
 pub sanirvoq-step-setup-spec : {M : Type 1} → stated.statement M
