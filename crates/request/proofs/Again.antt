@@ -8,7 +8,7 @@ use borrow.Author.Tests.{eqb-true, eq-eqb, ne-eqb}
 use native.Mathlib.Omega.{arith}
 use lib.Dec.{leb, eqb}
 use lib.ListN.{length, getD}
-use Rattle.common.specs.Bytes.{lowFirst, highFirst, ofHighFirst, Bytes}
+use Rattle.common.specs.Bytes.{lowFirst, highFirst, Bytes}
 use Rattle.common.specs.Keys.{Arm, among, byKeys}
 use Rattle.common.specs.Same.{sameList}
 use Rattle.common.specs.Tab.{tab}
@@ -22,16 +22,14 @@ use Rattle.wire.specs.Kind.{kinds, kindOf}
 use Rattle.wire.specs.Message.{isMessage, typeOf, fieldsOf, bytes4, bytesOf}
 use Rattle.wire.specs.declared.Kind.{Kind}
 use Rattle.wire.specs.declared.Kind.the-variants.{Tmget, Tmput, Tproc, Tstatus, Trnote, Tstop, Tstart, Tcondbreak, Unsupported, Unknown}
-use Rattle.wire.specs.declared.Data4.{Data4}
 use Rattle.wire.specs.declared.Message.{Message}
 use Rattle.wire.specs.declared.Message.the-variants as message
-use Rattle.wire.specs.declared.Reading.{Reading}
 use Rattle.wire.specs.declared.Reading.the-variants.{Accepted, NoMessage}
 use Rattle.text.specs.declared.Reason.the-variants.{Count, Unk, Inval, Unsup}
 use Rattle.request.specs.Request.{served, counted, parsedBy, parseOf}
-use Rattle.request.specs.Checked.{checked}
+use Rattle.request.specs.Unused.{lastWord, taken, aloneOf, getOf, putOf, conditionOf}
 use Rattle.request.specs.declared.Parsed.{Parsed}
-use Rattle.request.specs.declared.Parsed.the-variants.{Request, Refused}
+use Rattle.request.specs.declared.Parsed.the-variants.{Refused}
 
 -- ---- the type of a kind
 
@@ -46,7 +44,7 @@ chosen-by P [] other x h o = o
 chosen-by P (r ∷ rs) other x h o = choose P (among (r .keys) x) (h .0) (λ e. chosen-by P rs other x (h .1) o)
 
 -- the first byte of a request of a kind
-unfoldable pub Typed : ℕ → Kind → Type 0
+unfoldable Typed : ℕ → Kind → Type 0
 Typed t Tmget = t ≡ 2
 Typed t Tmput = t ≡ 4
 Typed t Tproc = t ≡ 6
@@ -62,7 +60,7 @@ only : (k x : ℕ) → among (k ∷ []) x ≡ true → x ≡ k
 unfolding among
 only k x e = on-same x k (λ q. q) (λ n. true-or-false (rw (ne-eqb x k n) at e))
 
-pub typed : (t : ℕ) → Typed t (kindOf t)
+typed : (t : ℕ) → Typed t (kindOf t)
 unfolding kindOf kinds Typed
 typed t =
     chosen-by (Typed t) kinds Unknown t
@@ -70,12 +68,8 @@ typed t =
 
 -- ---- the ten bytes
 
--- the last four bytes, as a number
-unfoldable pub lastWord : List ℕ → ℕ
-lastWord l = ofHighFirst (getD l 6 0 ∷ getD l 7 0 ∷ getD l 8 0 ∷ getD l 9 0 ∷ [])
-
 -- a type, a number, a byte and a number
-abbrev pub laid : ℕ → ℕ → ℕ → ℕ → List ℕ
+abbrev laid : ℕ → ℕ → ℕ → ℕ → List ℕ
 laid t v a w = t ∷ highFirst 4 v ++ (a ∷ highFirst 4 w)
 
 -- what is laid is found in its place
@@ -87,29 +81,35 @@ laid-last : (t v a w : ℕ) → w < 256 ^ 4 → lastWord (laid t v a w) ≡ w
 unfolding lowFirst highFirst lastWord
 laid-last t v a w h = high-round 4 w h
 
--- the order of the tests is free
-tests : (m : Message) (p q r : Bool)
-    → cond q (cond (r && p) (Request m) (Refused Inval)) (Refused Inval) ≡ served (cond (p && (q && r)) (Accepted m) NoMessage)
-unfolding served
-tests m true true true = refl
-tests m true true false = refl
-tests m true false r = refl
-tests m false true true = refl
-tests m false true false = refl
-tests m false false r = refl
+-- ---- the tests
 
--- what the code's arms answer, from the number, the byte after it, the last four bytes as a number, and as data
-unfoldable pub answer : Kind → ℕ → ℕ → ℕ → Data4 → Parsed
-answer Tmget v n w d = cond (leb n 9) (checked (message.Tmget v n) w) (Refused Count)
-answer Tmput v n w d = cond (leb n 4) (checked (message.Tmput v n d) 0) (Refused Count)
-answer Tproc v n w d = cond (eqb n 0) (checked (message.Tproc v) w) (Refused Inval)
-answer Tstatus v n w d = cond (eqb n 0) (checked (message.Tstatus v) w) (Refused Inval)
-answer Trnote v n w d = cond (eqb n 0) (checked (message.Trnote v) w) (Refused Inval)
-answer Tstop v n w d = cond (eqb n 0) (checked (message.Tstop v) w) (Refused Inval)
-answer Tstart v n w d = cond (eqb n 0) (checked (message.Tstart v) w) (Refused Inval)
-answer Tcondbreak v n w d = checked (message.Tcondbreak v n) w
-answer Unsupported v n w d = Refused Unsup
-answer Unknown v n w d = Refused Unk
+-- what is read with a test is taken with it
+read-taken : (t : Bool) (m : Message) → served (cond t (Accepted m) NoMessage) ≡ taken t m
+unfolding served taken
+read-taken true m = refl
+read-taken false m = refl
+
+-- a test that was made need not be made again
+once : (p q : Bool) (m : Message) (other : Parsed) → cond p (taken q m) other ≡ cond p (taken (p && q) m) other
+once true q m other = refl
+once false q m other = refl
+
+and-true : (t : Bool) → (t && true) ≡ t
+and-true true = refl
+and-true false = refl
+
+-- what the code's arms answer, from the number, the byte after it, and the bytes
+unfoldable pub answer : Kind → ℕ → ℕ → List ℕ → Parsed
+answer Tmget v n l = getOf v n l
+answer Tmput v n l = putOf v n l
+answer Tproc v n l = aloneOf (message.Tproc v) l
+answer Tstatus v n l = aloneOf (message.Tstatus v) l
+answer Trnote v n l = aloneOf (message.Trnote v) l
+answer Tstop v n l = aloneOf (message.Tstop v) l
+answer Tstart v n l = aloneOf (message.Tstart v) l
+answer Tcondbreak v n l = conditionOf v n l
+answer Unsupported v n l = Refused Unsup
+answer Unknown v n l = Refused Unk
 
 module _ (l : List ℕ) (ten : length l ≡ 10) (b : (i : ℕ) → getD l i 0 < 256) where
   four : (i j k m : ℕ) → Bytes (getD l i 0 ∷ getD l j 0 ∷ getD l k 0 ∷ getD l m 0 ∷ [])
@@ -122,7 +122,7 @@ module _ (l : List ℕ) (ten : length l ≡ 10) (b : (i : ℕ) → getD l i 0 < 
   whole =
       rw (high-bytes _ (four 1 2 3 4), high-bytes _ (four 6 7 8 9)) (sym (tab-sized l 0 10 ten))
 
-  pub last-fits : lastWord l < 256 ^ 4
+  last-fits : lastWord l < 256 ^ 4
   unfolding lastWord
   last-fits = high-fits _ (four 6 7 8 9)
 
@@ -144,43 +144,48 @@ module _ (l : List ℕ) (ten : length l ≡ 10) (b : (i : ℕ) → getD l i 0 < 
   -- so a request that is laid so is served where they are
   served-by : (k : Kind) (m : Message) (t a w : ℕ) → kindOf (getD l 0 0) ≡ k → getD l 0 0 ≡ t → candidateBy k l ≡ Accepted m
       → bytesOf m ≡ laid t (firstWord l) a w → w < 256 ^ 4
-      → cond (eqb (getD l 5 0) a) (cond (eqb (lastWord l) w && isMessage m) (Request m) (Refused Inval)) (Refused Inval) ≡ served (readOf l)
+      → served (readOf l) ≡ taken (isMessage m && (eqb (getD l 5 0) a && eqb (lastWord l) w)) m
   unfolding readOf candidateOf exactly
   served-by k m t a w e q g f h =
-      rw (eq-eqb (length l) 10 ten, e, g, f, again t a w q h) (tests m (isMessage m) (eqb (getD l 5 0) a) (eqb (lastWord l) w))
+      rw (eq-eqb (length l) 10 ten, e, g, f, again t a w q h) (read-taken (isMessage m && (eqb (getD l 5 0) a && eqb (lastWord l) w)) m)
 
   -- where the byte is used
   used-by : (k : Kind) (m : Message) (t w : ℕ) → kindOf (getD l 0 0) ≡ k → getD l 0 0 ≡ t → candidateBy k l ≡ Accepted m
-      → bytesOf m ≡ laid t (firstWord l) (getD l 5 0) w → w < 256 ^ 4
-      → cond (eqb (lastWord l) w && isMessage m) (Request m) (Refused Inval) ≡ served (readOf l)
-  used-by k m t w e q g f h =
-      rw (eq-eqb (getD l 5 0) (getD l 5 0) refl) at (served-by k m t (getD l 5 0) w e q g f h)
+      → bytesOf m ≡ laid t (firstWord l) (getD l 5 0) w → w < 256 ^ 4 → served (readOf l) ≡ taken (isMessage m && eqb (lastWord l) w) m
+  used-by k m t w e q g f h = rw (eq-eqb (getD l 5 0) (getD l 5 0) refl) at (served-by k m t (getD l 5 0) w e q g f h)
 
-  -- a Tmput leaves none unused here: its data is the last four
+  -- where the last four bytes are used too: the data of a Tmput
   put-laid : bytesOf (message.Tmput (firstWord l) (getD l 5 0) (data4 l)) ≡ laid 4 (firstWord l) (getD l 5 0) (lastWord l)
   unfolding bytesOf typeOf fieldsOf bytes4 data4 lastWord padded lowFirst highFirst
   put-laid = ap (λ (x : List ℕ). 4 ∷ highFirst 4 (firstWord l) ++ (getD l 5 0 ∷ x)) (sym (high-bytes _ (four 6 7 8 9)))
 
+  all-used-by : (k : Kind) (m : Message) (t : ℕ) → kindOf (getD l 0 0) ≡ k → getD l 0 0 ≡ t → candidateBy k l ≡ Accepted m
+      → bytesOf m ≡ laid t (firstWord l) (getD l 5 0) (lastWord l) → served (readOf l) ≡ taken (isMessage m) m
+  all-used-by k m t e q g f =
+      rw (eq-eqb (lastWord l) (lastWord l) refl, and-true) at (used-by k m t (lastWord l) e q g f last-fits)
+
   type : (k : Kind) → kindOf (getD l 0 0) ≡ k → Typed (getD l 0 0) k
   type k e = rw e at (typed (getD l 0 0))
 
-  arms : (k : Kind) → kindOf (getD l 0 0) ≡ k → answer k (firstWord l) (getD l 5 0) (lastWord l) (data4 l) ≡ parsedBy k l
-  unfolding answer parsedBy counted checked Typed bytesOf typeOf fieldsOf padded bytes4 data4 lowFirst highFirst candidateBy
-  arms Tmget e = rw (used-by Tmget _ 2 0 e (type Tmget e) refl refl (omega arith))
-  arms Tmput e = rw (rw (eq-eqb (lastWord l) (lastWord l) refl) at (used-by Tmput _ 4 (lastWord l) e (type Tmput e) refl put-laid last-fits))
-  arms Tproc e = served-by Tproc _ 6 0 0 e (type Tproc e) refl refl (omega arith)
-  arms Tstatus e = served-by Tstatus _ 8 0 0 e (type Tstatus e) refl refl (omega arith)
-  arms Trnote e = served-by Trnote _ 10 0 0 e (type Trnote e) refl refl (omega arith)
-  arms Tstop e = served-by Tstop _ 12 0 0 e (type Tstop e) refl refl (omega arith)
-  arms Tstart e = served-by Tstart _ 14 0 0 e (type Tstart e) refl refl (omega arith)
-  arms Tcondbreak e = used-by Tcondbreak _ 16 0 e (type Tcondbreak e) refl refl (omega arith)
+  -- each kind's arm
+  arms : (k : Kind) → kindOf (getD l 0 0) ≡ k → answer k (firstWord l) (getD l 5 0) l ≡ parsedBy k l
+  unfolding answer aloneOf getOf putOf conditionOf parsedBy counted Typed isMessage bytesOf typeOf fieldsOf padded lowFirst highFirst candidateBy
+  arms Tmget e =
+      rw (used-by Tmget _ 2 0 e (type Tmget e) refl refl (omega arith))
+      (once (leb (getD l 5 0) 9) (eqb (lastWord l) 0) (message.Tmget (firstWord l) (getD l 5 0)) (Refused Count))
+  arms Tmput e = rw (all-used-by Tmput _ 4 e (type Tmput e) refl put-laid)
+  arms Tproc e = sym (served-by Tproc _ 6 0 0 e (type Tproc e) refl refl (omega arith))
+  arms Tstatus e = sym (served-by Tstatus _ 8 0 0 e (type Tstatus e) refl refl (omega arith))
+  arms Trnote e = sym (served-by Trnote _ 10 0 0 e (type Trnote e) refl refl (omega arith))
+  arms Tstop e = sym (served-by Tstop _ 12 0 0 e (type Tstop e) refl refl (omega arith))
+  arms Tstart e = sym (served-by Tstart _ 14 0 0 e (type Tstart e) refl refl (omega arith))
+  arms Tcondbreak e = sym (used-by Tcondbreak _ 16 0 e (type Tcondbreak e) refl refl (omega arith))
   arms Unsupported e = refl
   arms Unknown e = refl
 
-  -- what the code answers by the kind and the numbers that it finds is the definition's
-  pub answered : (q k : Kind) (v w : ℕ) → v ≡ firstWord l → w ≡ lastWord l → q ≡ kindOf (getD l 0 0) → q ≡ k
-      → answer k v (getD l 5 0) w (data4 l) ≡ parseOf l
+  -- what the code answers by the kind and the number that it finds is the definition's
+  pub answered : (q k : Kind) (v : ℕ) → v ≡ firstWord l → q ≡ kindOf (getD l 0 0) → q ≡ k → answer k v (getD l 5 0) l ≡ parseOf l
   unfolding parseOf
-  answered q k v w e f g h =
+  answered q k v e g h =
       let found : kindOf (getD l 0 0) ≡ k = sym g ∙ h in
-      rw (e, f, eq-eqb (length l) 10 ten, found) (arms k found)
+      rw (e, eq-eqb (length l) 10 ten, found) (arms k found)

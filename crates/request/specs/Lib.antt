@@ -1,2 +1,2 @@
 pub mod Request
-pub mod Checked
+pub mod Unused

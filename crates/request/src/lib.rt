@@ -3,11 +3,11 @@ use text::Reason;
 use wire::Data4;
 use wire::Kind;
 use wire::Message;
-ghost use mathlib.Core.Bool.{cond};
 ghost use mathlib.Core.Path.{_≡_};
-ghost use lib.Dec.{leb, eqb};
+ghost use lib.Dec.{eqb};
+ghost use lib.ListN.{length};
 ghost use Rattle.request.specs.Request.{parseOf};
-ghost use Rattle.request.specs.Checked.{checked};
+ghost use Rattle.request.specs.Unused.{lastWord, taken, aloneOf, getOf, putOf, conditionOf};
 
 pub enum Parsed {
     Request(Message),
@@ -15,13 +15,55 @@ pub enum Parsed {
     NotTen,
 }
 
-// The message, or a refusal for an unused byte or an op. `unused` is zero where every byte that the type leaves unused is.
-fn exact(m: Message, unused: u32) -> Parsed
-    ensures { λ r. ⌜ r ≡ checked m unused ⌝ }
+// The message, where the last four bytes, which it leaves unused, are zero. They are tested as one number.
+fn take(s: &[u8], m: Message) -> Parsed
+    requires { ⌜ length (now s) ≡ 10 ⌝ }
+    ensures { λ r. ⌜ r ≡ taken (eqb (lastWord (now (s .entry))) 0) m ⌝ }
 {
-    if unused != 0 {
+    if common::word(s[6], s[7], s[8], s[9]) == 0 {
+        Parsed::Request(m)
+    } else {
+        Parsed::Refused(Reason::Inval)
+    }
+}
+
+// The same of a request that has a number only: the byte after it is unused too.
+fn alone(s: &[u8], m: Message) -> Parsed
+    requires { ⌜ length (now s) ≡ 10 ⌝ }
+    ensures { λ r. ⌜ r ≡ aloneOf m (now (s .entry)) ⌝ }
+{
+    if s[5] != 0 {
         return Parsed::Refused(Reason::Inval);
     }
+    take(s, m)
+}
+
+// A Tmget, by its count and its unused bytes.
+fn get(s: &[u8], addr: u32, n: u8) -> Parsed
+    requires { ⌜ length (now s) ≡ 10 ⌝ }
+    ensures { λ r. ⌜ r ≡ getOf addr n (now (s .entry)) ⌝ }
+{
+    if 9 < n {
+        return Parsed::Refused(Reason::Count);
+    }
+    take(s, Message::Tmget { addr, n })
+}
+
+// A Tmput, by its count and its data, which is the last four bytes.
+fn put(s: &[u8], addr: u32, n: u8) -> Parsed
+    requires { ⌜ length (now s) ≡ 10 ⌝ }
+    ensures { λ r. ⌜ r ≡ putOf addr n (now (s .entry)) ⌝ }
+{
+    if 4 < n {
+        return Parsed::Refused(Reason::Count);
+    }
+    let data = Data4 {
+        b0: s[6],
+        b1: s[7],
+        b2: s[8],
+        b3: s[9],
+    };
+    let m = Message::Tmput { addr, n, data };
     if wire::is_message(m) {
         Parsed::Request(m)
     } else {
@@ -29,28 +71,20 @@ fn exact(m: Message, unused: u32) -> Parsed
     }
 }
 
-// The same, of a request that leaves the byte after its number unused too.
-fn alone(m: Message, next: u8, unused: u32) -> Parsed
-    ensures { λ r. ⌜ r ≡ cond (eqb next 0) (checked m unused) (Parsed.Refused Reason.Inval) ⌝ }
+// A Tcondbreak, by its op and its unused bytes.
+fn condition(s: &[u8], val: u32, op: u8) -> Parsed
+    requires { ⌜ length (now s) ≡ 10 ⌝ }
+    ensures { λ r. ⌜ r ≡ conditionOf val op (now (s .entry)) ⌝ }
 {
-    if next != 0 {
+    let m = Message::Tcondbreak { val, op };
+    if !wire::is_message(m) {
         return Parsed::Refused(Reason::Inval);
     }
-    exact(m, unused)
-}
-
-// The same, after the count n.
-fn count(m: Message, n: u8, most: u8, unused: u32) -> Parsed
-    ensures { λ r. ⌜ r ≡ cond (leb n most) (checked m unused) (Parsed.Refused Reason.Count) ⌝ }
-{
-    if most < n {
-        return Parsed::Refused(Reason::Count);
-    }
-    exact(m, unused)
+    take(s, m)
 }
 
 // What a request asks, or why it is refused: its type, then its count, then its unused bytes and its op. The message is not
-// written again to be compared: the bytes that it holds are its own, so the unused ones decide.
+// written again to be compared: the bytes that it uses are its own, so the unused ones decide.
 pub fn parse(s: &[u8]) -> Parsed
     ensures { λ r. ⌜ r ≡ parseOf (now (s .entry)) ⌝ }
 {
@@ -59,25 +93,16 @@ pub fn parse(s: &[u8]) -> Parsed
     }
     let v = common::word(s[1], s[2], s[3], s[4]);
     let n = s[5];
-    let rest = common::word(s[6], s[7], s[8], s[9]);
     let k = wire::kind_of(s[0]);
     match k {
-        Kind::Tmget => count(Message::Tmget { addr: v, n }, n, 9, rest),
-        Kind::Tmput => {
-            let data = Data4 {
-                b0: s[6],
-                b1: s[7],
-                b2: s[8],
-                b3: s[9],
-            };
-            count(Message::Tmput { addr: v, n, data }, n, 4, 0)
-        }
-        Kind::Tproc => alone(Message::Tproc { pid: v }, n, rest),
-        Kind::Tstatus => alone(Message::Tstatus { pid: v }, n, rest),
-        Kind::Trnote => alone(Message::Trnote { pid: v }, n, rest),
-        Kind::Tstop => alone(Message::Tstop { pid: v }, n, rest),
-        Kind::Tstart => alone(Message::Tstart { pid: v }, n, rest),
-        Kind::Tcondbreak => exact(Message::Tcondbreak { val: v, op: n }, rest),
+        Kind::Tmget => get(s, v, n),
+        Kind::Tmput => put(s, v, n),
+        Kind::Tproc => alone(s, Message::Tproc { pid: v }),
+        Kind::Tstatus => alone(s, Message::Tstatus { pid: v }),
+        Kind::Trnote => alone(s, Message::Trnote { pid: v }),
+        Kind::Tstop => alone(s, Message::Tstop { pid: v }),
+        Kind::Tstart => alone(s, Message::Tstart { pid: v }),
+        Kind::Tcondbreak => condition(s, v, n),
         Kind::Unsupported => Parsed::Refused(Reason::Unsup),
         Kind::Unknown => Parsed::Refused(Reason::Unk),
     }

@@ -1,39 +1,37 @@
 -- `request::parse` meets its contract: the kind of the first byte decides, and each arm answers as the definition's. Assumes nothing.
 use borrow.Author.Needs.{needs}
-use mathlib.Core.Path.{_≡_, refl, sym, ap, _∙_}
+use mathlib.Core.Path.{_≡_, _∙_}
 use mathlib.Core.List.{List}
 use Prim.Native.Nat.{ℕ}
 use native.Mathlib.Omega.{arith}
-use borrow.Author.Tests.{eq-eqb, ne-eqb}
+use borrow.Author.Tests.{ne-eqb}
 use denote.Ref.{now}
 use lib.ListN.{getD}
-use Rattle.wire.specs.Codec.{firstWord, data4}
-use Rattle.wire.specs.Kind.{kindOf}
+use Rattle.wire.specs.Codec.{firstWord}
 use Rattle.wire.specs.declared.Kind.{Kind}
 use Rattle.wire.specs.declared.Kind.the-variants.{Tmget, Tmput, Tproc, Tstatus, Trnote, Tstop, Tstart, Tcondbreak, Unsupported, Unknown}
-use Rattle.request.specs.Request.{parsedBy, parseOf}
-use Rattle.request.specs.declared.Parsed.{Parsed}
-use Rattle.request.proofs.Again.{lastWord, answer, answered}
+use Rattle.request.specs.Request.{parseOf}
+use Rattle.request.proofs.Again.{answer, answered}
 use Rattle.request.proofs.parse.Statement.{statement}
 use Rattle.request.proofs.parse.Tie as tie
 
--- the place after the first number
-unfoldable number-at : tie.After-kind-of → tie.After-word
-number-at c = c .before .before .before .before .before .before .before .before
-
--- the bytes that are read
+-- the bytes that are read, and their first number
 unfoldable bytes-at : tie.After-kind-of → List ℕ
-bytes-at c = now (c .before .before .before .before .before .before .before .before .before .before .before .before .before .before .before .args .s)
+bytes-at c = now (c .before .before .before .before .before .before .before .before .before .before .args .s)
+
+unfoldable number-at : tie.After-kind-of → ℕ
+number-at c = c .before .before .before .word .result
 
 -- what the arm of the kind answers is the definition's
 by-kind : (c : tie.After-kind-of) (k : Kind) → c .kind-of .result ≡ k
-    → answer k (number-at c .word .result) (getD (bytes-at c) 5 0) (c .before .before .word2 .result) (data4 (bytes-at c)) ≡ parseOf (bytes-at c)
-unfolding bytes-at number-at firstWord lastWord
+    → answer k (number-at c) (getD (bytes-at c) 5 0) (bytes-at c) ≡ parseOf (bytes-at c)
+unfolding bytes-at number-at firstWord
 by-kind c k e =
-    let w = number-at c in
-    let o = w .before .before .before .before .before in
-    answered (bytes-at c) (o .if1 .left) (λ i. omega (arith, w .before .shared-slice-known5 .given i)) _ k _ _
-    (w .word .ensures) (c .before .before .word2 .ensures) (c .kind-of .ensures) e
+    let w = c .before .before .before in
+    answered (bytes-at c)
+    (w .before .before .before .before .before .if1 .left)
+    (λ i. omega (arith, w .before .shared-slice-known5 .given i))
+    (c .kind-of .result) k (number-at c) (w .word .ensures) (c .kind-of .ensures) e
 
 returns : tie.Need-returns
 unfolding parseOf
@@ -57,21 +55,6 @@ word-requires c κs = search needs
 shared-slice-read-n : tie.Need-shared-slice-read-n
 shared-slice-read-n c = search needs
 
-shared-slice-read-word-5 : tie.Need-shared-slice-read-word-5
-shared-slice-read-word-5 c = search needs
-
-shared-slice-read-word-6 : tie.Need-shared-slice-read-word-6
-shared-slice-read-word-6 c = search needs
-
-shared-slice-read-word-7 : tie.Need-shared-slice-read-word-7
-shared-slice-read-word-7 c = search needs
-
-shared-slice-read-word-8 : tie.Need-shared-slice-read-word-8
-shared-slice-read-word-8 c = search needs
-
-word-requires-2 : tie.Need-word-requires-2
-word-requires-2 c κs = search needs
-
 shared-slice-read-kind-of : tie.Need-shared-slice-read-kind-of
 shared-slice-read-kind-of c = search needs
 
@@ -81,26 +64,14 @@ kind-of-requires c κs = search needs
 enum-told : tie.Need-enum-told
 enum-told c = search needs
 
-count-requires : tie.Need-count-requires
-count-requires c κs = search needs
+get-requires : tie.Need-get-requires
+get-requires c κs = search needs
 
 enum-told-2 : tie.Need-enum-told-2
 enum-told-2 c = search needs
 
-shared-slice-read-t26 : tie.Need-shared-slice-read-t26
-shared-slice-read-t26 c = search needs
-
-shared-slice-read-t28 : tie.Need-shared-slice-read-t28
-shared-slice-read-t28 c = search needs
-
-shared-slice-read-t30 : tie.Need-shared-slice-read-t30
-shared-slice-read-t30 c = search needs
-
-shared-slice-read-t32 : tie.Need-shared-slice-read-t32
-shared-slice-read-t32 c = search needs
-
-count-requires-2 : tie.Need-count-requires-2
-count-requires-2 c κs = search needs
+put-requires : tie.Need-put-requires
+put-requires c κs = search needs
 
 enum-told-3 : tie.Need-enum-told-3
 enum-told-3 c = search needs
@@ -135,8 +106,8 @@ alone-requires-5 c κs = search needs
 enum-told-8 : tie.Need-enum-told-8
 enum-told-8 c = search needs
 
-exact-requires : tie.Need-exact-requires
-exact-requires c κs = search needs
+condition-requires : tie.Need-condition-requires
+condition-requires c κs = search needs
 
 enum-told-9 : tie.Need-enum-told-9
 enum-told-9 c = search needs
@@ -146,13 +117,11 @@ enum-told-10 c = search needs
 
 returns-2 : tie.Need-returns-2
 unfolding answer bytes-at number-at
-returns-2 c = c .count .ensures ∙ by-kind (c .before .before .before) Tmget (c .before .enum-told .given .1)
+returns-2 c = c .get .ensures ∙ by-kind (c .before .before .before) Tmget (c .before .enum-told .given .1)
 
 returns-3 : tie.Need-returns-3
-unfolding answer bytes-at number-at data4
-returns-3 c =
-    let e = c .before .before .before .before .before in
-    c .count2 .ensures ∙ by-kind (e .before .before) Tmput (e .enum-told2 .given .1)
+unfolding answer bytes-at number-at
+returns-3 c = c .put .ensures ∙ by-kind (c .before .before .before) Tmput (c .before .enum-told2 .given .1)
 
 returns-4 : tie.Need-returns-4
 unfolding answer bytes-at number-at
@@ -176,7 +145,7 @@ returns-8 c = c .alone5 .ensures ∙ by-kind (c .before .before .before) Tstart 
 
 returns-9 : tie.Need-returns-9
 unfolding answer bytes-at number-at
-returns-9 c = c .exact .ensures ∙ by-kind (c .before .before .before) Tcondbreak (c .before .enum-told8 .given .1)
+returns-9 c = c .condition .ensures ∙ by-kind (c .before .before .before) Tcondbreak (c .before .enum-told8 .given .1)
 
 returns-10 : tie.Need-returns-10
 unfolding answer bytes-at number-at
@@ -197,21 +166,12 @@ parse-spec =
     shared-slice-read-word-4
     word-requires
     shared-slice-read-n
-    shared-slice-read-word-5
-    shared-slice-read-word-6
-    shared-slice-read-word-7
-    shared-slice-read-word-8
-    word-requires-2
     shared-slice-read-kind-of
     kind-of-requires
     enum-told
-    count-requires
+    get-requires
     enum-told-2
-    shared-slice-read-t26
-    shared-slice-read-t28
-    shared-slice-read-t30
-    shared-slice-read-t32
-    count-requires-2
+    put-requires
     enum-told-3
     alone-requires
     enum-told-4
@@ -223,7 +183,7 @@ parse-spec =
     enum-told-7
     alone-requires-5
     enum-told-8
-    exact-requires
+    condition-requires
     enum-told-9
     enum-told-10
     returns-2
