@@ -64,11 +64,10 @@ fn put(s: &[u8], addr: u32, n: u8) -> Parsed
         b3: s[9],
     };
     let m = Message::Tmput { addr, n, data };
-    if wire::is_message(m) {
-        Parsed::Request(m)
-    } else {
-        Parsed::Refused(Reason::Inval)
+    if !wire::is_message(m) {
+        return Parsed::Refused(Reason::Inval);
     }
+    Parsed::Request(m)
 }
 
 // A Tcondbreak, by its op and its unused bytes.

@@ -1,7 +1,7 @@
 -- `request::put` meets its contract: the count by its test, the data by `is_message`. Assumes nothing.
 use borrow.Author.Needs.{needs}
 use mathlib.Core.Path.{sym, _∙_}
-use borrow.Author.Tests.{le-leb, lt-leb}
+use borrow.Author.Tests.{le-leb, lt-leb, not-true, not-false}
 use Rattle.wire.specs.Codec.{data4}
 use Rattle.request.specs.Unused.{taken, putOf}
 use Rattle.request.proofs.put.Statement.{statement}
@@ -28,11 +28,11 @@ is-message-requires c κs = search needs
 
 returns-2 : tie.Need-returns-2
 unfolding putOf taken data4
-returns-2 c = rw (le-leb _ 4 (c .before .before .before .before .before .before .if1 .left), sym (c .before .is-message .ensures) ∙ c .if2 .taken)
+returns-2 c = rw (le-leb _ 4 (c .before .before .before .before .before .before .if1 .left), sym (c .before .is-message .ensures) ∙ not-true _ (c .if2 .taken))
 
 returns-3 : tie.Need-returns-3
 unfolding putOf taken data4
-returns-3 c = rw (le-leb _ 4 (c .before .before .before .before .before .before .if1 .left), sym (c .before .is-message .ensures) ∙ c .if2 .left)
+returns-3 c = rw (le-leb _ 4 (c .before .before .before .before .before .before .if1 .left), sym (c .before .is-message .ensures) ∙ not-false _ (c .if2 .left))
 
 pub put-spec : {M : Type 1} → statement M
 put-spec =
