@@ -1,14 +1,14 @@
--- `wire::candidate` meets its contract: the kind of the first byte decides, and the number is that of the four bytes. Assumes nothing.
+-- `decode::candidate` meets its contract: the kind of the first byte decides, and the number is that of the four bytes. Assumes nothing.
 use borrow.Author.Needs.{needs}
 use mathlib.Core.Path.{_≡_, sym, ap, _∙_}
 use mathlib.Core.List.{List}
 use Prim.Native.Nat.{ℕ}
 use lib.ListN.{getD}
 use Rattle.wire.specs.Kind.{kindOf}
 use Rattle.wire.specs.Codec.{firstWord, data4, candidateBy, candidateOf}
 use Rattle.wire.specs.declared.Kind.{Kind}
-use Rattle.wire.proofs.candidate.Statement.{statement}
-use Rattle.wire.proofs.candidate.Tie as tie
+use Rattle.decode.proofs.candidate.Statement.{statement}
+use Rattle.decode.proofs.candidate.Tie as tie
 
 -- the definition, where the kind is known
 of-kind : (l : List ℕ) (k j : Kind) → k ≡ kindOf (getD l 0 0) → k ≡ j → candidateBy j l ≡ candidateOf l

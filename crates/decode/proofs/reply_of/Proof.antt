@@ -1,15 +1,15 @@
--- `wire::reply_of` meets its contract: each type by its arm of the definition's choice. Assumes nothing.
+-- `decode::reply_of` meets its contract: each type by its arm of the definition's choice. Assumes nothing.
 use borrow.Author.Needs.{needs}
 use mathlib.Core.Path.{ap, _∙_}
 use Prim.Native.Nat.{ℕ}
 use Rattle.common.specs.Keys.{among, byKeys}
 use Rattle.common.proofs.Keys.{other-arm}
 use Rattle.text.specs.Text.{reasonPlace, stateOf, addressOf}
 use Rattle.wire.specs.Codec.{errorAt, data9, replyOf}
 use Rattle.wire.specs.declared.Message.the-variants.{Rproc, Rstatus}
 use Rattle.wire.specs.declared.Reading.the-variants.{Accepted, NoMessage}
-use Rattle.wire.proofs.reply_of.Statement.{statement}
-use Rattle.wire.proofs.reply_of.Tie as tie
+use Rattle.decode.proofs.reply_of.Statement.{statement}
+use Rattle.decode.proofs.reply_of.Tie as tie
 
 shared-slice-read-t : tie.Need-shared-slice-read-t
 shared-slice-read-t c = search needs

@@ -1,4 +1,4 @@
--- `wire::text_of` meets its contract: what follows the type is the list of its nine elements. Assumes nothing.
+-- `decode::text_of` meets its contract: what follows the type is the list of its nine elements. Assumes nothing.
 use borrow.Author.Needs.{needs}
 use mathlib.Core.Path.{_≡_, sym, _∙_}
 use mathlib.Core.List.{List}
@@ -9,8 +9,8 @@ use denote.Ref.{now}
 use Rattle.common.specs.Tab.{tab}
 use Rattle.common.proofs.Lists.{part-to-end}
 use Rattle.common.proofs.Tab.{tab-part}
-use Rattle.wire.proofs.text_of.Statement.{statement}
-use Rattle.wire.proofs.text_of.Tie as tie
+use Rattle.decode.proofs.text_of.Statement.{statement}
+use Rattle.decode.proofs.text_of.Tie as tie
 
 after-type : (l : List ℕ) → length l ≡ 10 → drop 1 l ≡ tab 9 (λ i. getD l (1 + i) 0)
 after-type l h = sym (part-to-end l 1 10 h) ∙ tab-part l 0 1 9 (omega arith)

@@ -1,4 +1,4 @@
--- `wire::read` meets its contract: the tests of what is found decide as the definition's do. Assumes nothing.
+-- `decode::read` meets its contract: the tests of what is found decide as the definition's do. Assumes nothing.
 use borrow.Author.Needs.{needs}
 use mathlib.Core.Path.{_≡_, refl, sym, ap, _∙_}
 use mathlib.Core.Bool.{true, cond, _&&_}
@@ -12,14 +12,14 @@ use Rattle.common.specs.Keys.{among}
 use Rattle.common.specs.Same.{sameList}
 use Rattle.common.proofs.Keys.{among-yes}
 use Rattle.common.proofs.Same.{true-or-false}
 use Rattle.wire.specs.Message.{isMessage, bytesOf}
 use Rattle.wire.specs.Codec.{candidateOf, exactly, readOf}
 use Rattle.wire.specs.declared.Message.{Message}
 use Rattle.wire.specs.declared.Reading.{Reading}
 use Rattle.wire.specs.declared.Reading.the-variants.{Accepted, WrongSize, NoMessage}
 use Rattle.wire.proofs.Reading.{the-type}
-use Rattle.wire.proofs.read.Statement.{statement}
-use Rattle.wire.proofs.read.Tie as tie
+use Rattle.decode.proofs.read.Statement.{statement}
+use Rattle.decode.proofs.read.Tie as tie
 
 -- what is not accepted stays
 refused : (r : Reading) (l : List ℕ) → among (1 ∷ 2 ∷ []) (tagOf the-type r) ≡ true → r ≡ exactly r l

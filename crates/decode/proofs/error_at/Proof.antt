@@ -1,10 +1,10 @@
--- `wire::error_at` meets its contract: the seven places one by one, and any other is 7 or more. Assumes nothing.
+-- `decode::error_at` meets its contract: the seven places one by one, and any other is 7 or more. Assumes nothing.
 use borrow.Author.Tests.{le-ltb}
 use Rattle.common.proofs.Keys.{beyond}
 use Rattle.text.specs.Text.{reasons}
 use Rattle.wire.specs.Codec.{errorAt}
-use Rattle.wire.proofs.error_at.Statement.{statement}
-use Rattle.wire.proofs.error_at.Tie as tie
+use Rattle.decode.proofs.error_at.Statement.{statement}
+use Rattle.decode.proofs.error_at.Tie as tie
 
 returns : tie.Need-returns
 unfolding errorAt
