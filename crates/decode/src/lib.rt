@@ -41,7 +41,7 @@ fn reply_of(s: &[u8]) -> Reading
 {
     let t = s[0];
     match t {
-        1 => error_at(text::reason_place(text_of(s))),
+        1 => error_at(text_value::reason_place(text_of(s))),
         3 => Reading::Accepted(Message::Rmget {
             data: Data9 {
                 b0: s[1],
@@ -57,10 +57,10 @@ fn reply_of(s: &[u8]) -> Reading
         }),
         5 => Reading::Accepted(Message::Rmput),
         7 => Reading::Accepted(Message::Rproc {
-            addr: text::address_of(text_of(s)),
+            addr: text_value::address_of(text_of(s)),
         }),
         9 => Reading::Accepted(Message::Rstatus {
-            state: text::state_of(text_of(s)),
+            state: text_value::state_of(text_of(s)),
         }),
         11 => Reading::Accepted(Message::Rrnote),
         13 => Reading::Accepted(Message::Rstop),

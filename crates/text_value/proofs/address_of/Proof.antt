@@ -1,9 +1,9 @@
--- `text::address_of` meets its contract: four pairs of digits, as one number. Assumes nothing.
+-- `text_value::address_of` meets its contract: four pairs of digits, as one number. Assumes nothing.
 use borrow.Author.Needs.{needs}
 use mathlib.Core.Path.{_∙_}
 use Rattle.text.specs.Text.{pairValue, addressOf}
-use Rattle.text.proofs.address_of.Statement.{statement}
-use Rattle.text.proofs.address_of.Tie as tie
+use Rattle.text_value.proofs.address_of.Statement.{statement}
+use Rattle.text_value.proofs.address_of.Tie as tie
 
 array-read-pair-value : tie.Need-array-read-pair-value
 array-read-pair-value c = search needs

@@ -1,4 +1,4 @@
--- `text::state_of` meets its contract: the place that is found decides as the definition's tests do. Assumes nothing.
+-- `text_value::state_of` meets its contract: the place that is found decides as the definition's tests do. Assumes nothing.
 use borrow.Author.Needs.{needs}
 use mathlib.Core.Path.{_≡_, sym, _∙_}
 use mathlib.Core.Bool.{cond}
@@ -10,9 +10,9 @@ use lib.ListN.{getD}
 use Rattle.common.specs.First.{firstOf}
 use Rattle.common.specs.Same.{sameList}
 use Rattle.common.specs.Text.{codes, padded}
 use Rattle.text.specs.Text.{digitValue, pairValue, stateNames, stateOf}
-use Rattle.text.proofs.state_of.Statement.{statement}
-use Rattle.text.proofs.state_of.Tie as tie
+use Rattle.text_value.proofs.state_of.Statement.{statement}
+use Rattle.text_value.proofs.state_of.Tie as tie
 
 -- the definition, at the place that was found
 by-place : (text : List ℕ) (p : ℕ) → p ≡ firstOf (sameList text) stateNames

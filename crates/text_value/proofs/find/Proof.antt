@@ -1,4 +1,4 @@
--- `text::find` meets its contract. The loop's invariant: no row before place k is the text. Assumes nothing.
+-- `text_value::find` meets its contract. The loop's invariant: no row before place k is the text. Assumes nothing.
 use borrow.Author.Needs.{needs}
 use mathlib.Core.Path.{refl, sym, _∙_}
 use Prim.Native.Nat.{_≤_, _-_}
@@ -7,8 +7,8 @@ use mathlib.Core.List.{[]}
 use lib.ListN.{length}
 use Rattle.common.specs.Same.{sameList}
 use Rattle.common.proofs.First.{Passed, begin, pass, stop, none}
-use Rattle.text.proofs.find.Statement.{statement}
-use Rattle.text.proofs.find.Tie as tie
+use Rattle.text_value.proofs.find.Statement.{statement}
+use Rattle.text_value.proofs.find.Tie as tie
 
 abbrev Inv-loop : tie.InvT-loop
 Inv-loop rows text k₀ k = (k ≤ length rows) × Passed (sameList text) rows k

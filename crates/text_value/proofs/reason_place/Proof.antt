@@ -1,9 +1,9 @@
--- `text::reason_place` meets its contract: the table holds the texts of the reasons, in order. Assumes nothing.
+-- `text_value::reason_place` meets its contract: the table holds the texts of the reasons, in order. Assumes nothing.
 use borrow.Author.Needs.{needs}
 use Rattle.common.specs.Text.{codes, padded}
 use Rattle.text.specs.Text.{reasons, reasonName, reasonText, reasonPlace}
-use Rattle.text.proofs.reason_place.Statement.{statement}
-use Rattle.text.proofs.reason_place.Tie as tie
+use Rattle.text_value.proofs.reason_place.Statement.{statement}
+use Rattle.text_value.proofs.reason_place.Tie as tie
 
 slice-aggregate-find : tie.Need-slice-aggregate-find
 slice-aggregate-find c = search needs

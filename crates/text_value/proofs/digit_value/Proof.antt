@@ -1,10 +1,10 @@
--- `text::digit_value` meets its contract: the code computes what the definition says. Assumes nothing.
+-- `text_value::digit_value` meets its contract: the code computes what the definition says. Assumes nothing.
 use borrow.Author.Needs.{needs}
 use mathlib.Core.Path.{refl}
 use native.Mathlib.Omega.{arith}
 use Rattle.text.specs.Text.{digitValue}
-use Rattle.text.proofs.digit_value.Statement.{statement}
-use Rattle.text.proofs.digit_value.Tie as tie
+use Rattle.text_value.proofs.digit_value.Statement.{statement}
+use Rattle.text_value.proofs.digit_value.Tie as tie
 
 mul-result : tie.Need-mul-result
 mul-result c = search needs
