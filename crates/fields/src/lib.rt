@@ -225,7 +225,7 @@ pub fn write(f: Fields, buffer: &mut [u8]) -> u8
 pub fn read(s: &[u8]) -> Found
     ensures { λ r. ⌜ r ≡ foundBy (readOf (now (s .entry))) ⌝ }
 {
-    let reading = wire::read(s);
+    let reading = decode::read(s);
     let number = wire::number_of(reading);
     let fields = match reading {
         Reading::Accepted(m) => fields_of(m),

@@ -1,10 +1,7 @@
-// The reasons of a refusal, and the texts of nine bytes that replies carry, with the values that a text can be of.
+// The reasons of a refusal, and the texts of nine bytes that replies carry.
 ghost use mathlib.Core.Path.{_≡_};
-ghost use mathlib.Core.List.{List, _∷_, []};
-ghost use Prim.Native.Nat.{ℕ, _+_, _*_, _/_, _%_, _<_};
-ghost use Rattle.common.specs.First.{firstOf};
-ghost use Rattle.common.specs.Same.{sameList};
-ghost use Rattle.text.specs.Text.{reasonText, reasonPlace, hexDigit, digitValue, stateText, stateOf, addressText, addressOf};
+ghost use Prim.Native.Nat.{_<_};
+ghost use Rattle.text.specs.Text.{reasonText, hexDigit, stateText, addressText};
 
 // Why a request was refused.
 pub enum Reason {
@@ -17,7 +14,8 @@ pub enum Reason {
     Notstop,
 }
 
-const REASONS: [[u8; 9]; 7] = [
+// The reasons' texts, in the order of document 01.
+pub const REASONS: [[u8; 9]; 7] = [
     *b"reset\0\0\0\0",
     *b"count\0\0\0\0",
     *b"unk\0\0\0\0\0\0",
@@ -28,7 +26,7 @@ const REASONS: [[u8; 9]; 7] = [
 ];
 
 // The state names, indexed by the state byte; the last is cut to nine bytes.
-const STATE_NAMES: [[u8; 9]; 10] = [
+pub const STATE_NAMES: [[u8; 9]; 10] = [
     *b"Dead\0\0\0\0\0",
     *b"Moribund\0",
     *b"Ready\0\0\0\0",
@@ -43,23 +41,6 @@ const STATE_NAMES: [[u8; 9]; 10] = [
 
 const DIGITS: [u8; 16] = *b"0123456789abcdef";
 
-// The place of the first row that is the text, or the number of rows.
-fn find(rows: &[[u8; 9]], text: [u8; 9]) -> usize
-    ensures { λ r. ⌜ r ≡ firstOf (sameList text) (now (rows .entry)) ⌝ }
-{
-    let mut k: usize = 0;
-    let place = loop {
-        if k == rows.len() {
-            break k;
-        }
-        if common::equal(&text, &rows[k]) {
-            break k;
-        }
-        k += 1;
-    };
-    place
-}
-
 pub fn reason_text(r: Reason) -> [u8; 9]
     ensures { λ t. ⌜ t ≡ reasonText r ⌝ }
 {
@@ -72,13 +53,6 @@ pub fn reason_text(r: Reason) -> [u8; 9]
         Reason::Unsup => REASONS[5],
         Reason::Notstop => REASONS[6],
     }
-}
-
-// The place of the reason with this text, or 7.
-pub fn reason_place(text: [u8; 9]) -> usize
-    ensures { λ r. ⌜ r ≡ reasonPlace text ⌝ }
-{
-    find(&REASONS, text)
 }
 
 fn hex_digit(n: u8) -> u8
@@ -135,43 +109,4 @@ pub fn address_text(addr: u32) -> [u8; 9]
         hex_digit(b3 % 16),
         0,
     ]
-}
-
-// The value of a lower-case hex digit; of another character, of no account.
-fn digit_value(c: u8) -> u8
-    ensures { λ r. ⌜ (r ≡ digitValue c) × (r < 16) ⌝ }
-{
-    (c % 16 + 9 * (c / 64)) % 16
-}
-
-// The value of two hex digits.
-fn pair_value(high: u8, low: u8) -> u8
-    ensures { λ r. ⌜ r ≡ digitValue high * 16 + digitValue low ⌝ }
-{
-    digit_value(high) * 16 + digit_value(low)
-}
-
-// The state that a text can be of: a name's place, or the value of one or two digits.
-pub fn state_of(text: [u8; 9]) -> u8
-    ensures { λ r. ⌜ r ≡ stateOf text ⌝ }
-{
-    let place = find(&STATE_NAMES, text);
-    if place < 10 {
-        return place as u8;
-    }
-    if text[1] == 0 {
-        return digit_value(text[0]);
-    }
-    pair_value(text[0], text[1])
-}
-
-// The address that a text can be of.
-pub fn address_of(text: [u8; 9]) -> u32
-    ensures { λ r. ⌜ r ≡ addressOf text ⌝ }
-{
-    let b0 = pair_value(text[0], text[1]);
-    let b1 = pair_value(text[2], text[3]);
-    let b2 = pair_value(text[4], text[5]);
-    let b3 = pair_value(text[6], text[7]);
-    common::word(b0, b1, b2, b3)
 }

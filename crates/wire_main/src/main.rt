@@ -1,4 +1,4 @@
-// Reads ten-byte blocks from standard input until it ends. Writes for each the number that `wire::read` gives, as one byte,
+// Reads ten-byte blocks from standard input until it ends. Writes for each the number that `decode::read` gives, as one byte,
 // and where that is 0 the ten bytes that `wire::write` gives for the message read. Input that ends inside a block ends it.
 use libc::STDIN_FILENO;
 use libc::STDOUT_FILENO;
@@ -10,7 +10,7 @@ fn answer_block() -> bool {
     if got < 10 {
         return false;
     }
-    let found = wire::read(&block);
+    let found = decode::read(&block);
     let mut bytes = [0u8; 10];
     let number = [wire::number_of(found)];
     let wire::Reading::Accepted(m) = found else {
