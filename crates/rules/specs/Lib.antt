@@ -7,6 +7,7 @@ pub mod Event
 pub mod Step
 pub mod Change
 pub mod Ready
+pub mod Outcomes
 pub mod Worked
 pub mod Replies
 pub mod Refusals
