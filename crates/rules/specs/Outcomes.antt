@@ -68,48 +68,42 @@ processOf w pid = processAt (w .target .processes) (indexOf (w .target) pid)
 
 -- ---- an accepted request: its reply and the world that it leaves, with what the tests told
 
-pub data Left (head : Head) (w : World) : Message → Message → World → Type 0 where
+pub data Left (head : Head) (w : World) : Parsed → Message → World → Type 0 where
   got : {addr n : ℕ} (d : Data9)
       → (0 < n → placeOf (w .target .base) (w .target .size) addr n ≡ Window
       → d ≡ data9Of (readOf 2 (sites (w .target)) (plains (w .target)) (w .mem) (addr - w .target .base) n 9))
-      → Left head w (Tmget addr n) (Rmget d) w
+      → Left head w (Request (Tmget addr n)) (Rmget d) w
   put : {addr n : ℕ} {d : Data4} → 0 < n → placeOf (w .target .base) (w .target .size) addr n ≡ Window
-      → Left head w (Tmput addr n d) Rmput (windowWritten w addr (take n (bytes4 d)))
+      → Left head w (Request (Tmput addr n d)) Rmput (windowWritten w addr (take n (bytes4 d)))
   -- into the register area, or nowhere
   aside : {addr n : ℕ} {d : Data4} (regs : List ℕ) → (0 < n → placeOf (w .target .base) (w .target .size) addr n ≡ Window → ⊥)
-      → Left head w (Tmput addr n d) Rmput (world (w .target) (w .mem) regs)
+      → Left head w (Request (Tmput addr n d)) Rmput (world (w .target) (w .mem) regs)
   current : {pid : ℕ} → Known w pid
-      → Left head w (Tproc pid) (Rproc (processOf w pid .address)) (withTarget w (withCurrent (w .target) 1 pid))
-  told : {pid : ℕ} (state : ℕ) → Left head w (Tstatus pid) (Rstatus state) w
-  noted : {pid : ℕ} → Left head w (Trnote pid) Rrnote w
-  halted : {pid : ℕ} → Left head w (Tstop pid) Rstop w
+      → Left head w (Request (Tproc pid)) (Rproc (processOf w pid .address)) (withTarget w (withCurrent (w .target) 1 pid))
+  told : {pid : ℕ} (state : ℕ) → Left head w (Request (Tstatus pid)) (Rstatus state) w
+  noted : {pid : ℕ} → Left head w (Request (Trnote pid)) Rrnote w
+  halted : {pid : ℕ} → Left head w (Request (Tstop pid)) Rstop w
   marked : {pid : ℕ} → Known w pid → isStopped (processOf w pid) ≡ false
-      → Left head w (Tstop pid) Rstop (withTarget w (setState (w .target) (indexOf (w .target) pid) (processOf w pid .state) 1))
+      → Left head w (Request (Tstop pid)) Rstop (withTarget w (setState (w .target) (indexOf (w .target) pid) (processOf w pid .state) 1))
   started : {pid : ℕ} → Known w pid → isStopped (processOf w pid) ≡ true
-      → Left head w (Tstart pid) Rstart
+      → Left head w (Request (Tstart pid)) Rstart
       (removedAt (withTarget w (setState (w .target) (indexOf (w .target) pid) ready 0)) (pcOf (blockAt (w .regs) (indexOf (w .target) pid))))
   cleared : {pid : ℕ} → Known w pid → isStopped (processOf w pid) ≡ false
-      → Left head w (Tstart pid) Rstart (withTarget w (setState (w .target) (indexOf (w .target) pid) (processOf w pid .state) 0))
+      → Left head w (Request (Tstart pid)) Rstart (withTarget w (setState (w .target) (indexOf (w .target) pid) (processOf w pid .state) 0))
   begins : {val op : ℕ} → eqb op (code "n") ≡ true
       → ltb 255 val ≡ false → ltb (entryOf (w .target .table .entries) val) (length (w .target .table .entries)) ≡ false
       → leb (length (w .target .table .entries)) (firstFree (w .target .table .entries)) ≡ false
-      → Left head w (Tcondbreak val op) Rcondbreak (withTarget w (withDraft (w .target) (begun val)))
+      → Left head w (Request (Tcondbreak val op)) Rcondbreak (withTarget w (withDraft (w .target) (begun val)))
   plants : {val op : ℕ} → eqb op (code "n") ≡ false → eqb op (code "b") ≡ true → inHand w ≡ true → siteFree w val ≡ true
       → wellFormed (w .target .table .draft .elements) (w .target .table .draft .count) ≡ true
-      → Left head w (Tcondbreak val op) Rcondbreak (planted head w val)
+      → Left head w (Request (Tcondbreak val op)) Rcondbreak (planted head w val)
   removes : {val op : ℕ} → eqb op (code "n") ≡ false → eqb op (code "b") ≡ false → eqb op (code "d") ≡ true
       → val ≤ 255 → entryOf (w .target .table .entries) val < length (w .target .table .entries)
-      → Left head w (Tcondbreak val op) Rcondbreak (removed w (entryOf (w .target .table .entries) val))
+      → Left head w (Request (Tcondbreak val op)) Rcondbreak (removed w (entryOf (w .target .table .entries) val))
   joins : {val op : ℕ} → eqb op (code "n") ≡ false → eqb op (code "b") ≡ false → eqb op (code "d") ≡ false → inHand w ≡ true
       → roomFor (w .target .table .draft) (record { letter = op; value = val }) ≡ Fits
-      → Left head w (Tcondbreak val op) Rcondbreak
+      → Left head w (Request (Tcondbreak val op)) Rcondbreak
       (withTarget w (withDraft (w .target) (withElement (w .target .table .draft) (record { letter = op; value = val }))))
-
--- by what its bytes say
-abbrev pub LeftBy : Head → World → Parsed → Message → World → Type 0
-LeftBy head w (Request m) q v = Left head w m q v
-LeftBy head w (Refused r) q v = ⊥
-LeftBy head w NotTen q v = ⊥
 
 -- served, with a reply that is no Rerr and what Q says of it; or refused with Rerr and all unchanged, but that the condition in hand is
 -- dropped where d
@@ -194,7 +188,7 @@ module _ (head : Head) (w : World) where
     elsewhere : {A : Type 0} → place ≡ Registers → 0 < n → place ≡ Window → A
     elsewhere e h q = let r : Registers ≡ Window = sym e ∙ q in let z : _≡_ {A = ℕ} 0 1 = cc in absurd (omega arith)
 
-    got-from : 0 < n → (p : Place) → place ≡ p → Served w false (Left head w (Tmget addr n)) (gotFrom p w addr n)
+    got-from : 0 < n → (p : Place) → place ≡ p → Served w false (Left head w (Request (Tmget addr n))) (gotFrom p w addr n)
     unfolding gotFrom isMessage typeOf
     got-from h Registers e =
         on-block _ (λ i. serving (Rmget _) w refl refl (got _ (elsewhere e)))
@@ -202,10 +196,10 @@ module _ (head : Head) (w : World) where
     got-from h Nowhere e = failing Inval
 
     put-to : (d : Data4) → 0 < n → (p : Place) → place ≡ p
-        → Served w false (Left head w (Tmput addr n d)) (putTo p w addr (take n (bytes4 d)))
+        → Served w false (Left head w (Request (Tmput addr n d))) (putTo p w addr (take n (bytes4 d)))
     unfolding putTo isMessage typeOf
     put-to d h Registers e =
-        choose (Served w false (Left head w (Tmput addr n d))) (leb addr 3) (λ g. failing Inval)
+        choose (Served w false (Left head w (Request (Tmput addr n d)))) (leb addr 3) (λ g. failing Inval)
         (λ g. on-block _ (λ i. serving Rmput _ refl refl (aside _ (elsewhere e))))
     put-to d h Window e = serving Rmput _ refl refl (put h e)
     put-to d h Nowhere e = failing Inval
@@ -213,39 +207,39 @@ module _ (head : Head) (w : World) where
     some : eqb n 0 ≡ false → 0 < n
     some e = omega (arith, eqb-false n 0 e)
 
-    mget-of : Served w false (Left head w (Tmget addr n)) (mget w addr n)
+    mget-of : Served w false (Left head w (Request (Tmget addr n))) (mget w addr n)
     unfolding mget isMessage typeOf
     mget-of =
-        choose (Served w false (Left head w (Tmget addr n))) (eqb n 0)
+        choose (Served w false (Left head w (Request (Tmget addr n)))) (eqb n 0)
         (λ e. serving (Rmget _) w refl refl (got _ (λ h q. absurd (omega (arith, eqb-true n 0 e)))))
         (λ e. got-from (some e) place refl)
 
-    mput-of : (d : Data4) → Served w false (Left head w (Tmput addr n d)) (mput w addr n d)
+    mput-of : (d : Data4) → Served w false (Left head w (Request (Tmput addr n d))) (mput w addr n d)
     unfolding mput isMessage typeOf
     mput-of d =
-        choose (Served w false (Left head w (Tmput addr n d))) (eqb n 0)
+        choose (Served w false (Left head w (Request (Tmput addr n d)))) (eqb n 0)
         (λ e. serving Rmput w refl refl (aside (w .regs) (λ h q. omega (arith, eqb-true n 0 e))))
         (λ e. put-to d (some e) place refl)
 
   -- ---- the five requests with a pid
 
-  stop-of : (pid : ℕ) → Served w false (Left head w (Tstop pid)) (stop w pid)
+  stop-of : (pid : ℕ) → Served w false (Left head w (Request (Tstop pid))) (stop w pid)
   unfolding stop isMessage typeOf
   stop-of pid =
       on-process pid _ (λ h. serving Rstop _ refl refl
-      (choose (Left head w (Tstop pid) Rstop) (isStopped (processOf w pid)) (λ e. halted) (λ e. marked h e)))
+      (choose (Left head w (Request (Tstop pid)) Rstop) (isStopped (processOf w pid)) (λ e. halted) (λ e. marked h e)))
 
-  start-of : (pid : ℕ) → Served w false (Left head w (Tstart pid)) (start w pid)
+  start-of : (pid : ℕ) → Served w false (Left head w (Request (Tstart pid))) (start w pid)
   unfolding start isMessage typeOf
   start-of pid =
       on-process pid _ (λ h. serving Rstart _ refl refl
-      (choose (Left head w (Tstart pid) Rstart) (isStopped (processOf w pid)) (λ e. started h e) (λ e. cleared h e)))
+      (choose (Left head w (Request (Tstart pid)) Rstart) (isStopped (processOf w pid)) (λ e. started h e) (λ e. cleared h e)))
 
   -- ---- Tcondbreak, letter by letter: a refused n, b or element drops the condition in hand, a refused d does not
 
   module _ (val op : ℕ) where
     abbrev By : Bool → Outcome → Type 0
-    By d = Served w d (Left head w (Tcondbreak val op))
+    By d = Served w d (Left head w (Request (Tcondbreak val op)))
 
     abbrev element : Element
     element = record { letter = op; value = val }
@@ -308,7 +302,7 @@ module _ (head : Head) (w : World) where
 
   -- ---- every message, and every request of ten bytes
 
-  serve-of : (m : Message) → Served w (drops (bytesOf m)) (Left head w m) (serve head w m)
+  serve-of : (m : Message) → Served w (drops (bytesOf m)) (Left head w (Request m)) (serve head w m)
   unfolding serve proc status rnote isMessage drops bytesOf typeOf fieldsOf padded highFirst lowFirst allZero
   serve-of (Tmget addr n) = mget-of addr n
   serve-of (Tmput addr n d) = mput-of addr n d
@@ -330,14 +324,14 @@ module _ (head : Head) (w : World) where
 
   module _ (l reply : List ℕ) where
     abbrev Parsing : Parsed → Type 0
-    Parsing p = Served w (drops l) (LeftBy head w p) (requestBy head p w l reply)
+    Parsing p = Served w (drops l) (Left head w p) (requestBy head p w l reply)
 
     -- refused by its bytes alone
     refused-of : (r : Reason) → Parsing (Refused r)
     unfolding requestBy refusedBy failed
     refused-of r = go (drops l)
       where
-        go : (d : Bool) → Served w d (λ q v. ⊥) (cond d (failed r w) (error r w))
+        go : (d : Bool) → Served w d (Left head w (Refused r)) (cond d (failed r w) (error r w))
         go true = failing r
         go false = failing r
 
@@ -380,7 +374,7 @@ module _ (head : Head) (w : World) where
       (λ f. stayed 3 refl (λ g z. let q : _≡_ {A = Bool} true false = sym g ∙ f in let z : _≡_ {A = ℕ} 0 1 = cc in omega arith)))
       (λ e. stayed 2 refl (λ g z. omega arith))
 
-  pub came-request : (l reply : List ℕ) → Comes head w reply (Served w (drops l) (LeftBy head w (parseOf l))) (requestOf head w l reply)
+  pub came-request : (l reply : List ℕ) → Comes head w reply (Served w (drops l) (Left head w (parseOf l))) (requestOf head w l reply)
   unfolding requestOf
   came-request l reply =
       on-checks _ (eqb (length l) 10 && eqb (length reply) 10) reply _
