@@ -23,7 +23,7 @@ use Rattle.rules.specs.Event.{restart}
 use Rattle.rules.specs.Step.{setupTarget, sized}
 use Rattle.rules.specs.Step.{Step, stepOf}
 use Rattle.rules.specs.Outcomes.{processOf, Left, Served, serving, failing, Heard, Told, telling, Comes, stayed, went, SetUp, taken, emptied}
-use Rattle.rules.specs.Outcomes.{got, put, aside, current, told, noted, halted, marked, started, cleared, begins, plants, removes, joins}
+use Rattle.rules.specs.Outcomes.{got, put, aside, current, told, noted, halted, marked, started, cleared, begins, plants, removes, adds}
 use Rattle.rules.specs.Outcomes.{caught, released, yielded, ran, became, set-up}
 use Rattle.rules.specs.Outcomes.{came-request, came-restart, came-trap, came-schedule, came-state}
 use Rattle.rules.specs.Step.{request, trapEvent, scheduleEvent, stateEvent, restartStep}
@@ -61,7 +61,7 @@ module _ {head : Head} (w : World) (g : GoodWorld head w) where
   good-left (begins n s e f) = good-begun w g _ s e f
   good-left (plants n b h s f) = good-planted w g _ h s f
   good-left (removes n b d l h) = good-removed w g _ h (id-is-used _ _ (omega arith) h)
-  good-left (joins n b d h r) = good-joined w g _ h r
+  good-left (adds n b d h r) = good-joined w g _ h r
 
   -- an accepted event
   good-heard : {e : Step} {a : Answer} {v : World} → Heard head w e a v → GoodWorld head v

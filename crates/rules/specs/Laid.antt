@@ -12,6 +12,10 @@ use Rattle.memory.specs.Head.{Head, trapBytes}
 use Rattle.memory.specs.Overlay.{noSite, siteOver, slotOf, covered, plainAt, plainOf, laidOver}
 use Rattle.memory.specs.Place.{placeOf}
 use Rattle.memory.specs.Write.{overwritten, memAfter, plainAfter}
+use Rattle.memory.specs.declared.Place.{Place}
+use Rattle.memory.specs.declared.Place.the-variants.{Registers, Window, Nowhere}
+use borrow.Author.Tests.{ltb-true}
+use Rattle.common.proofs.Same.{true-or-false, and-both}
 use Rattle.common.proofs.Cases.{on-test, on-same}
 use Rattle.memory.proofs.Site.{no-site-free}
 use Rattle.memory.proofs.Slots.{slot-below, slot-site, covered-by, free-slots}
@@ -24,7 +28,7 @@ use Rattle.target.specs.declared.Entry.{Entry}
 use Rattle.target.specs.declared.Target.{Target}
 use Rattle.rules.specs.Breakpoint.{sites, plains}
 use Rattle.rules.specs.Request.{withPlains}
-use Rattle.rules.specs.Book.{Breakpoint, Book, Setup, sitesBy, realBy}
+use Rattle.rules.specs.Book.{Breakpoint, Book, Setup, intoWindow, inWindow, sitesBy, realBy}
 use Rattle.rules.specs.Facts.{Good, Used}
 use Rattle.rules.specs.Slots.{sites-set, plain-byte, sites-with, plains-with}
 use Rattle.rules.specs.FitFacts.{planted-of, slot-used, slot-free, slot-only, slot-byte, eight-sites, sixteen-plains}
@@ -83,6 +87,19 @@ pub same-place : {head : Head} (s : Setup) (b : Book) (t : Target) (mem : List �
     → placeOf (s .base) (s .size) addr n ≡ placeOf (t .base) (t .size) addr n
 same-place s b t mem a addr n =
     sym (ap (λ (k : ℕ). placeOf k (t .size) addr n) (a .follows .base) ∙ ap (λ (k : ℕ). placeOf (s .base) k addr n) (a .follows .size))
+
+into-window : (p : Place) → intoWindow p ≡ true → p ≡ Window
+unfolding intoWindow
+into-window Registers e = true-or-false e
+into-window Window e = refl
+into-window Nowhere e = true-or-false e
+
+-- those that the book has in the window are some, and are there
+pub in-window : {head : Head} (s : Setup) (b : Book) (t : Target) (mem : List ℕ) → Agree head s b t mem → (addr n : ℕ)
+    → inWindow s addr n ≡ true → (0 < n) × (placeOf (t .base) (t .size) addr n ≡ Window)
+unfolding inWindow
+in-window s b t mem a addr n e =
+    let p = and-both _ _ e in (ltb-true 0 n (p .0), sym (same-place s b t mem a addr n) ∙ into-window _ (p .1))
 
 -- ---- the plain bytes of a table with one entry stored
 

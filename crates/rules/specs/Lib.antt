@@ -30,7 +30,6 @@ pub mod Laid
 pub mod Halted
 pub mod Moves
 pub mod Fed
-pub mod AfterCondition
 pub mod AfterRequest
 pub mod AfterStep
 pub mod Reads

@@ -100,7 +100,7 @@ pub data Left (head : Head) (w : World) : Parsed → Message → World → Type 
   removes : {val op : ℕ} → eqb op (code "n") ≡ false → eqb op (code "b") ≡ false → eqb op (code "d") ≡ true
       → val ≤ 255 → entryOf (w .target .table .entries) val < length (w .target .table .entries)
       → Left head w (Request (Tcondbreak val op)) Rcondbreak (removed w (entryOf (w .target .table .entries) val))
-  joins : {val op : ℕ} → eqb op (code "n") ≡ false → eqb op (code "b") ≡ false → eqb op (code "d") ≡ false → inHand w ≡ true
+  adds : {val op : ℕ} → eqb op (code "n") ≡ false → eqb op (code "b") ≡ false → eqb op (code "d") ≡ false → inHand w ≡ true
       → roomFor (w .target .table .draft) (record { letter = op; value = val }) ≡ Fits
       → Left head w (Request (Tcondbreak val op)) Rcondbreak
       (withTarget w (withDraft (w .target) (withElement (w .target .table .draft) (record { letter = op; value = val }))))
@@ -274,7 +274,7 @@ module _ (head : Head) (w : World) where
         joined-of : eqb op (code "d") ≡ false → inHand w ≡ true → (r : Room) → roomFor (w .target .table .draft) element ≡ r
             → By true (joined w (addedBy r (w .target .table .draft) element) (addedBy r (w .target .table .draft) element .room))
         unfolding joined addedBy failed isMessage typeOf
-        joined-of d h Fits r = serving Rcondbreak _ refl refl (joins n b d h r)
+        joined-of d h Fits r = serving Rcondbreak _ refl refl (adds n b d h r)
         joined-of d h Full r = failing Count
         joined-of d h Short r = failing Inval
 
