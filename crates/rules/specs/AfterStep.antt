@@ -8,7 +8,7 @@ use Rattle.common.specs.Keys.{among}
 use Rattle.fit.specs.Fit.{stopped, processAt}
 use Rattle.memory.specs.Head.{Head}
 use Rattle.target.specs.declared.Target.{Target}
-use Rattle.rules.specs.Outcome.{World, world, Outcome, answered, refused, replied}
+use Rattle.rules.specs.Outcome.{World, world, answered, refused, replied}
 use Rattle.rules.specs.Record.{indexOf, stopWith}
 use Rattle.rules.specs.Event.{restart}
 use Rattle.rules.specs.Step.{Step, request, trapEvent, scheduleEvent, stateEvent, restartStep, stepOf}
@@ -19,9 +19,17 @@ use Rattle.rules.specs.Halted.{listed, listed-pid, among-more, among-her
 use Rattle.rules.specs.Moves.{move-state, move-restart}
 use Rattle.rules.specs.declared.Answer.{Answer}
 use Rattle.rules.specs.declared.Answer.the-variants.{Nothing}
-use Rattle.rules.specs.Outcomes.{Heard, Told, telling, Comes, stayed, went, caught, released, yielded, ran, became}
-use Rattle.rules.specs.Outcomes.{came-request, came-restart, came-trap, came-schedule, came-state}
+use Rattle.rules.specs.Outcomes.{Heard, caught, released, yielded, ran, became, regsOf, bufferOf, by-step}
 use Rattle.rules.specs.AfterRequest.{after-served}
+
+-- a step that is refused by its number leaves the book
+unfed : (s : Setup) (b : Book) (e : Step) (n : ℕ) (reply : List ℕ) → eqb n 0 ≡ false → fed s b e n Nothing reply ≡ b
+unfolding fed isAccepted
+unfed s b (request r bytes buffer) n reply h = rw h
+unfed s b (trapEvent r pid block) n reply h = rw h
+unfed s b (scheduleEvent r pid block) n reply h = rw h
+unfed s b (stateEvent r pid value) n reply h = refl
+unfed s b (restartStep r buffer) n reply h = rw h
 
 module _ {head : Head} (s : Setup) (b : Book) (t : Target) (mem regs : List ℕ) (a : Agree head s b t mem) where
   abbrev w : World
@@ -52,44 +60,13 @@ module _ {head : Head} (s : Setup) (b : Book) (t : Target) (mem regs : List ℕ)
       let i = indexOf t pid in
       move-state s b t mem v i _ _ (b .stopped) (listed t mem (a .good) i h) (n ∙ sym e ∙ v .stopped i h) (λ j g d. refl)
 
-  after-told : {e : Step} {o : Outcome} → Told head w e o
-      → Follows s (fed s b e (o .number) (o .answer) (o .reply)) (o .after .target) (o .after .mem)
-  unfolding answered
-  after-told (telling x o h) = after-heard h
-
-  -- a step that is refused by its number leaves the book
-  unfed : (e : Step) (n : ℕ) (reply : List ℕ) → eqb n 0 ≡ false → fed s b e n Nothing reply ≡ b
-  unfolding fed isAccepted
-  unfed (request r bytes buffer) n reply h = rw h
-  unfed (trapEvent r pid block) n reply h = rw h
-  unfed (scheduleEvent r pid block) n reply h = rw h
-  unfed (stateEvent r pid value) n reply h = refl
-  unfed (restartStep r buffer) n reply h = rw h
-
-  after-came : (e : Step) {reply : List ℕ} {P : Outcome → Type 0} {o : Outcome}
-      → (P o → Follows s (fed s b e (o .number) (o .answer) (o .reply)) (o .after .target) (o .after .mem)) → Comes head w reply P o
-      → Follows s (fed s b e (o .number) (o .answer) (o .reply)) (o .after .target) (o .after .mem)
-  unfolding refused
-  after-came e {reply} f (stayed n h x) = rw (unfed e n reply h) v
-  after-came e f (went p) = f p
-
-  after-restart : let o = restart w in Follows s (fed s b (restartStep regs []) (o .number) (o .answer) (o .reply)) (o .after .target) (o .after .mem)
-  unfolding fed restart replied
-  after-restart = move-restart s b t mem v regs
-
 -- every step
 pub after-step : {head : Head} (s : Setup) (b : Book) (t : Target) (mem : List ℕ) → Agree head s b t mem → (e : Step)
     → let o = stepOf head t mem e in Follows s (fed s b e (o .number) (o .answer) (o .reply)) (o .after .target) (o .after .mem)
-unfolding stepOf fed
-after-step {head} s b t mem a (request regs bytes reply) =
-    after-came s b t mem regs a (request regs bytes reply) (after-served s b t mem regs a) (came-request head (world t mem regs) bytes reply)
-after-step {head} s b t mem a (trapEvent regs pid block) =
-    after-came s b t mem regs a (trapEvent regs pid block) (after-told s b t mem regs a) (came-trap head (world t mem regs) regs pid block)
-after-step {head} s b t mem a (scheduleEvent regs pid block) =
-    after-came s b t mem regs a (scheduleEvent regs pid block) (after-told s b t mem regs a)
-    (came-schedule head (world t mem regs) regs pid block)
-after-step {head} s b t mem a (stateEvent regs pid value) =
-    after-came s b t mem regs a (stateEvent regs pid value) (after-told s b t mem regs a) (came-state head (world t mem regs) regs pid value)
-after-step {head} s b t mem a (restartStep regs reply) =
-    after-came s b t mem regs a (restartStep regs reply) (λ e. rw e (after-restart s b t mem regs a))
-    (came-restart head (world t mem regs) reply)
+unfolding fed refused answered restart replied
+after-step s b t mem a =
+    by-step t mem (λ e o. Follows s (fed s b e (o .number) (o .answer) (o .reply)) (o .after .target) (o .after .mem))
+    (λ e n h three. rw (unfed s b e n (bufferOf e) h) (a .follows))
+    (λ regs bytes reply o x. after-served s b t mem regs a x)
+    (λ e x o h. after-heard s b t mem (regsOf e) a h)
+    (λ regs reply. move-restart s b t mem (a .follows) regs)

@@ -20,13 +20,10 @@ use Rattle.rules.specs.Record.{ready, isStopped}
 use Rattle.rules.specs.Breakpoint.{sites}
 use Rattle.rules.specs.Condition.{dropped}
 use Rattle.rules.specs.Event.{restart}
-use Rattle.rules.specs.Step.{setupTarget, sized}
-use Rattle.rules.specs.Step.{Step, stepOf}
-use Rattle.rules.specs.Outcomes.{processOf, Left, Served, serving, failing, Heard, Told, telling, Comes, stayed, went, SetUp, taken, emptied}
-use Rattle.rules.specs.Outcomes.{got, put, aside, current, told, noted, halted, marked, started, cleared, begins, plants, removes, adds}
-use Rattle.rules.specs.Outcomes.{caught, released, yielded, ran, became, set-up}
-use Rattle.rules.specs.Outcomes.{came-request, came-restart, came-trap, came-schedule, came-state}
-use Rattle.rules.specs.Step.{request, trapEvent, scheduleEvent, stateEvent, restartStep}
+use Rattle.rules.specs.Step.{setupTarget, sized, Step, stepOf}
+use Rattle.rules.specs.Outcomes.{processOf, Left, Served, serving, failing, Heard, SetUp, taken, emptied, got, put, aside, current}
+use Rattle.rules.specs.Outcomes.{told, noted, halted, marked, started, cleared, begins, plants, removes, adds, caught, released}
+use Rattle.rules.specs.Outcomes.{yielded, ran, became, set-up, regsOf, by-step}
 use Rattle.rules.specs.Book.{Setup, setupBy}
 use Rattle.rules.specs.Facts.{Good}
 use Rattle.rules.specs.Found.{id-is-used}
@@ -34,8 +31,8 @@ use Rattle.rules.specs.FitFacts.{facts-of}
 use Rattle.rules.specs.Parts.{parts-of, good-of, good-current}
 use Rattle.rules.specs.KeptProcesses.{mark-none, mark-one, mark-kept, restart-parts, setup-parts}
 use Rattle.rules.specs.KeptTable.{fresh-parts}
-use Rattle.rules.specs.KeptWorld.{GoodWorld, good-dropped, good-begun, good-joined, good-state, good-stopped}
-use Rattle.rules.specs.KeptWorld.{good-removed, good-removed-at, good-planted, good-window}
+use Rattle.rules.specs.KeptWorld.{GoodWorld, good-dropped, good-begun, good-joined, good-state, good-stopped, good-removed}
+use Rattle.rules.specs.KeptWorld.{good-removed-at, good-planted, good-window}
 
 -- what is claimed of a step's outcome: it leaves a good world, and its number is not 3
 pub record Fine (head : Head) (o : Outcome) : Type 0 where
@@ -89,35 +86,18 @@ module _ {head : Head} (w : World) (g : GoodWorld head w) where
   good-unless true = good-dropped w g
   good-unless false = g
 
-  -- ---- every step
-
   fine-served : {d : Bool} {p : Parsed} {o : Outcome} → Served w d (Left head w p) o → Fine head o
   unfolding replied error
   fine-served (serving m v h e l) = record { good = good-left l; notThree = omega arith }
   fine-served {d = d} (failing r) = record { good = good-unless d; notThree = omega arith }
 
-  fine-told : {e : Step} {o : Outcome} → Told head w e o → Fine head o
-  unfolding answered
-  fine-told (telling a v h) = record { good = good-heard h; notThree = omega arith }
-
-  fine-came : {reply : List ℕ} {P : Outcome → Type 0} {o : Outcome} → (P o → Fine head o) → Comes head w reply P o → Fine head o
-  unfolding refused
-  fine-came f (stayed n h e) = record { good = g; notThree = e (g .fit) }
-  fine-came f (went p) = f p
-
 fine-step : {head : Head} (t : Target) (mem : List ℕ) (e : Step) → Good head t mem → Fine head (stepOf head t mem e)
-unfolding stepOf restart replied
-fine-step {head} t mem (request regs bytes reply) g =
-    let w = world t mem regs in fine-came w g (fine-served w g) (came-request head w bytes reply)
-fine-step {head} t mem (trapEvent regs pid block) g =
-    let w = world t mem regs in fine-came w g (fine-told w g) (came-trap head w regs pid block)
-fine-step {head} t mem (scheduleEvent regs pid block) g =
-    let w = world t mem regs in fine-came w g (fine-told w g) (came-schedule head w regs pid block)
-fine-step {head} t mem (stateEvent regs pid value) g =
-    let w = world t mem regs in fine-came w g (fine-told w g) (came-state head w regs pid value)
-fine-step {head} t mem (restartStep regs reply) g =
-    let w = world t mem regs in
-    fine-came w g (λ e. rw e (record { good = good-restarted w g; notThree = omega arith })) (came-restart head w reply)
+unfolding refused answered restart replied
+fine-step {head} t mem e g =
+    by-step t mem (λ e o. Fine head o) (λ e n h three. record { good = g; notThree = three (g .fit) })
+    (λ regs bytes reply o x. fine-served (world t mem regs) g x)
+    (λ e x v h. record { good = good-heard (world t mem (regsOf e)) g h; notThree = omega arith })
+    (λ regs reply. record { good = good-restarted (world t mem regs) g; notThree = omega arith }) e
 
 -- ---- the statements
 

@@ -29,7 +29,6 @@ pub mod Listed
 pub mod Laid
 pub mod Halted
 pub mod Moves
-pub mod Fed
 pub mod AfterRequest
 pub mod AfterStep
 pub mod Reads

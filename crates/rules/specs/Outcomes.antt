@@ -26,12 +26,13 @@ use Rattle.memory.specs.declared.Place.{Place}
 use Rattle.memory.specs.declared.Place.the-variants.{Registers, Window, Nowhere}
 use Rattle.request.specs.Request.{served, counted, parsedBy, parseOf}
 use Rattle.request.specs.declared.Parsed.{Parsed}
-use Rattle.request.specs.declared.Parsed.the-variants.{Request, Refused, NotTen}
+use Rattle.request.specs.declared.Parsed.the-variants.{Request, Refused}
 use Rattle.target.specs.Free.{firstFree}
 use Rattle.target.specs.Fresh.{emptyTarget}
 use Rattle.target.specs.declared.Element.{Element}
 use Rattle.target.specs.declared.Entry.{Entry}
 use Rattle.target.specs.declared.Process.{Process}
+use Rattle.target.specs.declared.Target.{Target}
 use Rattle.text.specs.declared.Reason.{Reason}
 use Rattle.text.specs.declared.Reason.the-variants.{Count, Unk, Inval, Pid, Unsup, Notstop}
 use Rattle.wire.specs.Codec as codec
@@ -57,7 +58,24 @@ use Rattle.rules.specs.Request.{onBlock, data9Of, gotFrom, mget, windowW
 use Rattle.rules.specs.Request.{proc, status, rnote, stop, start, serve, drops, refusedBy, requestBy}
 use Rattle.rules.specs.Event.{onListed, holds, trapped, trap, schedule, state, restart}
 use Rattle.rules.specs.Step.{setupTarget, setupOf, sized, checked, requestOf, trapOf, scheduleOf, stateOf, restartOf}
-use Rattle.rules.specs.Step.{Step, trapEvent, scheduleEvent, stateEvent}
+use Rattle.rules.specs.Step.{Step, request, trapEvent, scheduleEvent, stateEvent, restartStep, stepOf}
+
+-- ---- what is lent with a step
+
+unfoldable pub regsOf : Step → List ℕ
+regsOf (request regs bytes reply) = regs
+regsOf (trapEvent regs pid block) = regs
+regsOf (scheduleEvent regs pid block) = regs
+regsOf (stateEvent regs pid value) = regs
+regsOf (restartStep regs reply) = regs
+
+-- the reply buffer, where the step has one
+unfoldable pub bufferOf : Step → List ℕ
+bufferOf (request regs bytes reply) = reply
+bufferOf (trapEvent regs pid block) = []
+bufferOf (scheduleEvent regs pid block) = []
+bufferOf (stateEvent regs pid value) = []
+bufferOf (restartStep regs reply) = reply
 
 -- a pid that is listed, and its process
 abbrev pub Known : World → ℕ → Type 0
@@ -421,3 +439,33 @@ module _ (head : Head) (w : World) where
       choose (Comes head w [] (Told head w (stateEvent regs pid value))) (isStopped (processOf w pid) || eqb value stopped)
       (λ e. stayed 5 refl (λ k z. omega arith))
       (λ e. let n = neither (isStopped (processOf w pid)) (eqb value stopped) e in went (telling _ _ (became h (n .0) (n .1))))))
+
+-- ---- every step: what holds of a refusal by its number, of a request, of an event and of a restart holds of each
+
+module _ {head : Head} (t : Target) (mem : List ℕ) (R : Step → Outcome → Type 0)
+    (stays : (e : Step) (n : ℕ) → eqb n 0 ≡ false → (fitOf head t mem ≡ true → n ≡ 3 → ⊥)
+    → R e (refused n (world t mem (regsOf e)) (bufferOf e)))
+    (serves : (regs bytes reply : List ℕ) (o : Outcome)
+    → Served (world t mem regs) (drops bytes) (Left head (world t mem regs) (parseOf bytes)) o → R (request regs bytes reply) o)
+    (tells : (e : Step) (a : Answer) (v : World) → Heard head (world t mem (regsOf e)) e a v → R e (answered a v))
+    (restarts : (regs reply : List ℕ) → R (restartStep regs reply) (restart (world t mem regs))) where
+  on-came : (e : Step) {P : Outcome → Type 0} {o : Outcome} → (P o → R e o)
+      → Comes head (world t mem (regsOf e)) (bufferOf e) P o → R e o
+  on-came e f (stayed n h g) = stays e n h g
+  on-came e f (went p) = f p
+
+  on-told : (e : Step) {o : Outcome} → Told head (world t mem (regsOf e)) e o → R e o
+  on-told e (telling a v h) = tells e a v h
+
+  pub by-step : (e : Step) → R e (stepOf head t mem e)
+  unfolding stepOf regsOf bufferOf
+  by-step (request regs bytes reply) =
+      on-came (request regs bytes reply) (serves regs bytes reply _) (came-request head (world t mem regs) bytes reply)
+  by-step (trapEvent regs pid block) =
+      let e = trapEvent regs pid block in on-came e (on-told e) (came-trap head (world t mem regs) regs pid block)
+  by-step (scheduleEvent regs pid block) =
+      let e = scheduleEvent regs pid block in on-came e (on-told e) (came-schedule head (world t mem regs) regs pid block)
+  by-step (stateEvent regs pid value) =
+      let e = stateEvent regs pid value in on-came e (on-told e) (came-state head (world t mem regs) regs pid value)
+  by-step (restartStep regs reply) =
+      on-came (restartStep regs reply) (λ e. rw e (restarts regs reply)) (came-restart head (world t mem regs) reply)

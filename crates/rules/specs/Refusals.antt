@@ -20,25 +20,9 @@ use Rattle.rules.specs.Condition.{dropped}
 use Rattle.rules.specs.Request.{drops}
 use Rattle.rules.specs.Step.{setupTarget, setupOf, Step, request, trapEvent, scheduleEvent, stateEvent, restartStep, stepOf}
 use Rattle.rules.specs.Book.{isAccepted}
+use Rattle.rules.specs.Outcomes.{regsOf, bufferOf}
 use Rattle.rules.specs.Replies.{Handled, accepted, refusing, Checked, held, passed, Reply, Answered}
 use Rattle.rules.specs.Replies.{request-checked, trap-checked, schedule-checked, state-checked, restart-checked, served-reply}
-
--- ---- what is lent with a step
-
-unfoldable pub regsOf : Step → List ℕ
-regsOf (request regs bytes reply) = regs
-regsOf (trapEvent regs pid block) = regs
-regsOf (scheduleEvent regs pid block) = regs
-regsOf (stateEvent regs pid value) = regs
-regsOf (restartStep regs reply) = regs
-
--- the reply buffer, where the step has one
-unfoldable pub bufferOf : Step → List ℕ
-bufferOf (request regs bytes reply) = reply
-bufferOf (trapEvent regs pid block) = []
-bufferOf (scheduleEvent regs pid block) = []
-bufferOf (stateEvent regs pid value) = []
-bufferOf (restartStep regs reply) = reply
 
 -- ---- "A step is refused if its number is not 0 or a request got Rerr"
 
