@@ -1,15 +1,16 @@
 -- The tests of `fitOf` as facts, and the facts as tests. Assumes nothing.
 use mathlib.Core.Path.{_≡_, sym, ap, _∙_}
-use mathlib.Core.Bool.{Bool, true, false, not, _&&_}
+use mathlib.Core.Bool.{true, false, not, _&&_}
 use mathlib.Core.List.{List}
 use Prim.Native.Nat.{ℕ, _+_, _-_, _*_, _%_, _<_}
 use native.Mathlib.Omega.{arith}
-use borrow.Author.Tests.{ltb-true, ltb-false, leb-true, eqb-true, eqb-false, not-true, lt-ltb, le-leb, eq-eqb, ne-eqb}
+use borrow.Author.Tests.{ltb-true, ltb-false, eqb-false, not-true, lt-ltb, le-leb, eq-eqb, ne-eqb}
 use lib.Dec.{ltb, eqb}
 use lib.ListN.{length, getD}
 use Rattle.common.specs.Every.{every}
 use Rattle.common.proofs.Every.{every-at, every-all}
-use Rattle.common.proofs.Same.{and-both}
+pub use Rattle.common.proofs.Same.{parts}
+use Rattle.common.proofs.Same.{and-left, and-right}
 use Rattle.fit.specs.Fit.{fitOf, windowFit, processAt, pidFit, processesFit, entryAt, apart, siteFit, entryFit, slotFit, entriesFit}
 use Rattle.fit.specs.Fit.{marksFit, currentFit, draftFit}
 use Rattle.memory.specs.Head.{Head, trapBytes}
@@ -25,17 +26,6 @@ use Rattle.target.specs.declared.Target.{Target}
 use Rattle.rules.specs.Breakpoint.{sites, plains}
 use Rattle.rules.specs.Facts.{Used, UsedFacts, Facts, Good}
 use Rattle.rules.specs.Slots.{length-sites, site-at, site-used, site-free, length-plains, plain-byte}
-
--- ---- one part of a conjunction that holds
-
-pub and-left : (a b : Bool) → (a && b) ≡ true → a ≡ true
-and-left a b e = and-both a b e .0
-
-pub and-right : (a b : Bool) → (a && b) ≡ true → b ≡ true
-and-right a b e = and-both a b e .1
-
--- the facts that the parts of a conjunction state
-pub ruleset parts = (and-left, and-right, ltb-true, leb-true, eqb-true)
 
 -- ---- keys that no two have, one before the other, are different
 

@@ -10,6 +10,7 @@ use lib.ListN.{length}
 use Rattle.common.specs.First.{firstOf}
 use Rattle.common.proofs.First.{first-holds, first-le}
 use Rattle.common.proofs.Cases.{on-test}
+use Rattle.common.proofs.Same.{parts}
 use Rattle.fit.specs.Arrays.{idOf, idsOf}
 use Rattle.fit.specs.Fit.{entryAt, entryOf}
 use Rattle.target.specs.Free.{isFree, firstFree}
@@ -17,7 +18,6 @@ use Rattle.target.specs.Fresh.{noEntry}
 use Rattle.target.specs.declared.Entry.{Entry}
 use Rattle.rules.specs.Breakpoint.{isAt, breakpointAt}
 use Rattle.rules.specs.Slots.{length-ids, id-at, id-used, id-free}
-use Rattle.rules.specs.FitFacts.{parts}
 
 module _ (es : List Entry) where
   -- ---- a free entry

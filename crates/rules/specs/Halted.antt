@@ -15,7 +15,7 @@ use Rattle.common.specs.Tab.{tab}
 use Rattle.common.proofs.First.{first-holds}
 use Rattle.common.proofs.Tab.{length-tab, tab-at}
 use Rattle.fit.specs.Fit.{processAt, processOf}
-use Rattle.common.proofs.Cases.{on-test, on-same}
+use Rattle.common.proofs.Cases.{on-test, on-same, same-eqb}
 use Rattle.memory.specs.Head.{Head}
 use Rattle.target.specs.Fresh.{noProcess}
 use Rattle.target.specs.declared.Process.{Process}
@@ -29,10 +29,6 @@ use Rattle.rules.specs.FitFacts.{facts-of}
 use Rattle.rules.specs.Agree.{pidsOf, Halted}
 
 -- ---- where a pid is found
-
--- two numbers are the same either way round
-eqb-sym : (a b : ℕ) → eqb a b ≡ eqb b a
-eqb-sym a b = on-same a b (λ q. eq-eqb a b q ∙ sym (eq-eqb b a (sym q))) (λ n. ne-eqb a b n ∙ sym (ne-eqb b a (λ q. n (sym q))))
 
 -- the process that is found has the pid
 found-pid : (ps : List Process) (n pid : ℕ) → n ≤ length ps → processOf ps n pid < n
@@ -61,7 +57,7 @@ pub pid-place : (ps : List Process) (n pid : ℕ) → firstOf (eqb pid) (take n 
 unfolding processOf firstOf
 pid-place ps zero pid = refl
 pid-place [] (suc n) pid = refl
-pid-place (p ∷ ps) (suc n) pid = rw (eqb-sym pid (p .pid), pid-place ps n pid)
+pid-place (p ∷ ps) (suc n) pid = rw (same-eqb pid (p .pid) (p .pid) pid sym sym, pid-place ps n pid)
 
 -- ---- the book's list
 

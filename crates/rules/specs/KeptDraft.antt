@@ -17,6 +17,7 @@ use Rattle.condition.specs.declared.Room.the-variants.{Fits, Full, Short}
 use Rattle.fit.specs.Arrays.{noId, idOf, idsOf}
 use Rattle.fit.specs.Fit.{entryAt, entryOf, draftTest, draftFit}
 use Rattle.common.proofs.Cases.{on-test}
+use Rattle.common.proofs.Same.{parts}
 use Rattle.target.specs.Free.{isFree, firstFree}
 use Rattle.target.specs.Fresh.{noEntry, freshEntry, closedDraft}
 use Rattle.target.specs.declared.Draft.{Draft}
@@ -26,7 +27,6 @@ use Rattle.rules.specs.Condition.{begun}
 use Rattle.rules.specs.Request.{withPlains}
 use Rattle.rules.specs.Slots.{length-ids, ids-set, ids-with, first-with}
 use Rattle.rules.specs.Found.{free-first}
-use Rattle.rules.specs.FitFacts.{parts}
 
 -- ---- one element more
 

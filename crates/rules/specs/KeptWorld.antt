@@ -1,13 +1,14 @@
 -- A good world stays good: each kind of change that a step makes to the record and to memory. Assumes nothing.
-use mathlib.Core.Path.{_≡_, refl, sym}
-use mathlib.Core.Bool.{Bool, true, false, cond, _||_}
+use mathlib.Core.Path.{_≡_, refl}
+use mathlib.Core.Bool.{true, false}
 use mathlib.Core.List.{List}
 use Prim.Native.Nat.{ℕ, _+_, _-_, _≤_, _<_}
 use native.Mathlib.Omega.{arith}
 use borrow.Author.Tests.{ltb-true, ltb-false, not-true}
 use lib.Dec.{leb, ltb, eqb}
 use lib.ListN.{length, length-set}
-use Rattle.common.proofs.Same.{true-or-false}
+use Rattle.common.proofs.Cases.{choose}
+use Rattle.common.proofs.Same.{parts}
 use Rattle.condition.specs.Depth.{wellFormed}
 use Rattle.condition.specs.Add.{roomFor, withElement}
 use Rattle.condition.specs.declared.Room.the-variants.{Fits}
@@ -22,7 +23,6 @@ use Rattle.rules.specs.Condition.{dropped, inHand, begun, siteFree}
 use Rattle.rules.specs.Request.{windowWritten}
 use Rattle.rules.specs.Facts.{Good}
 use Rattle.rules.specs.Found.{free-found, at-used, at-first, id-first}
-use Rattle.rules.specs.FitFacts.{parts}
 use Rattle.rules.specs.Parts.{parts-of, good-processes}
 use Rattle.rules.specs.KeptProcesses.{mark-none, state-parts}
 use Rattle.rules.specs.KeptDraft.{closed-fit, hand-of, begun-fit, joined-fit}
@@ -31,16 +31,6 @@ use Rattle.rules.specs.KeptTable.{good-draft, good-made, good-freed, goo
 -- the record is good with its memory
 abbrev pub GoodWorld : Head → World → Type 0
 GoodWorld head w = Good head (w .target) (w .mem)
-
--- what holds of both branches of a test holds of the one that is taken
-pub choose : {A : Type 0} (P : A → Type 0) (c : Bool) {a b : A} → (c ≡ true → P a) → (c ≡ false → P b) → P (cond c a b)
-choose P true h k = h refl
-choose P false h k = k refl
-
--- both parts of a disjunction that fails fail
-pub neither : (a b : Bool) → (a || b) ≡ false → (a ≡ false) × (b ≡ false)
-neither true b e = true-or-false (sym e)
-neither false b e = (refl, e)
 
 module _ {head : Head} (w : World) (g : GoodWorld head w) where
   -- ---- the condition in hand

@@ -1,9 +1,8 @@
 -- Memory and the book: real memory is the book's, and each change of the table leaves plain memory as the book says.
 use mathlib.Core.Path.{_≡_, refl, sym, ap, _∙_}
-use mathlib.Core.Bool.{Bool, true, false}
+use mathlib.Core.Bool.{true, false}
 use mathlib.Core.List.{List, [], _∷_}
-use Prim.Native.Nat.{ℕ, zero, suc, _+_, _-_, _*_, _<_}
-use native.Mathlib.Nat.{add-zero}
+use Prim.Native.Nat.{ℕ, _+_, _-_, _*_, _<_}
 use native.Mathlib.Omega.{arith}
 use lib.ListN.{length, getD, set, replicate, length-set}
 use Rattle.fit.specs.Arrays.{siteOf, sitesOf, plainsOf}
@@ -16,7 +15,8 @@ use Rattle.memory.specs.declared.Place.{Place}
 use Rattle.memory.specs.declared.Place.the-variants.{Registers, Window, Nowhere}
 use borrow.Author.Tests.{ltb-true}
 use Rattle.common.proofs.Same.{true-or-false, and-both}
-use Rattle.common.proofs.Cases.{on-test, on-same}
+use Rattle.common.proofs.Cases.{on-test, on-same, same-test}
+use Rattle.common.proofs.Tab.{pair-at}
 use Rattle.memory.proofs.Site.{no-site-free}
 use Rattle.memory.proofs.Slots.{slot-below, slot-site, covered-by, free-slots}
 use Rattle.memory.proofs.Bytes.{length-plain-after, no-traps}
@@ -36,11 +36,6 @@ use Rattle.rules.specs.Agree.{dressed, Agree}
 use Rattle.rules.specs.Listed.{member-place, place-member, entry-here, entry-away}
 
 -- ---- real memory is the book's
-
--- two tests that imply each other
-same-test : (a b : Bool) → (a ≡ true → b ≡ true) → (b ≡ true → a ≡ true) → a ≡ b
-same-test true b f g = sym (f refl)
-same-test false b f g = on-test b (λ e. g e ∙ sym e) (λ e. sym e)
 
 -- an offset is under a trap of the table where it is under one of the book
 pub same-covered : {head : Head} (s : Setup) (b : Book) (t : Target) (mem : List ℕ) → Agree head s b t mem → (i : ℕ)
@@ -166,18 +161,12 @@ module _ {head : Head} (t : Target) (mem : List ℕ) (good : Good head t mem) wh
       (planted-plain (trapBytes head) (sites t) mem k s
       (λ i q. no-site-free 2 (omega arith) i (q ∙ slot-free t mem good k below free))
       (plains t) (plainsOf (set (t .table .entries) k e)) (omega arith) (omega arith)
-      (λ r h. stored-plain t mem good k e below (ap length bytes) r h ∙ ap (λ (l : List ℕ). getD l r 0) bytes ∙ byte r h)
+      (λ r h. stored-plain t mem good k e below (ap length bytes) r h ∙ ap (λ (l : List ℕ). getD l r 0) bytes
+      ∙ pair-at (plainAt 2 (sites t) (plains t) mem) s 0 r h)
       (λ j r h g n. kept-plain t mem good k e below (ap length bytes) j r (omega arith) g n))
     where
       s : ℕ
       s = e .site - t .base
-
-      byte : (r : ℕ) → r < 2
-          → getD (plainAt 2 (sites t) (plains t) mem s ∷ plainAt 2 (sites t) (plains t) mem (s + 1) ∷ []) r 0
-          ≡ plainAt 2 (sites t) (plains t) mem (s + r)
-      byte zero h = rw add-zero
-      byte (suc zero) h = refl
-      byte (suc (suc r)) h = absurd (omega arith)
 
 -- ---- a write puts its bytes into plain memory
 

@@ -5,6 +5,7 @@ use mathlib.Core.List.{List}
 use Prim.Native.Nat.{ℕ, _+_, _-_, _%_, _<_}
 use native.Mathlib.Omega.{arith}
 use lib.ListN.{length, getD}
+use Rattle.common.proofs.Same.{parts}
 use Rattle.fit.specs.Arrays.{sitesOf}
 use Rattle.fit.specs.Fit.{windowFit, processesFit, marksFit, currentFit, draftFit, entryAt}
 use Rattle.memory.specs.Head.{Head, trapBytes}
@@ -18,7 +19,7 @@ use Rattle.rules.specs.Breakpoint.{sites}
 use Rattle.rules.specs.Facts.{ShapedEntry, Used, UsedFacts, Good}
 use Rattle.rules.specs.Record.{withTable, withProcesses, withCurrent}
 use Rattle.rules.specs.Slots.{length-sites, site-at, site-used}
-use Rattle.rules.specs.FitFacts.{parts, tests-of, facts-by, entries-fit, fit-by, planted-of}
+use Rattle.rules.specs.FitFacts.{tests-of, facts-by, entries-fit, fit-by, planted-of}
 use Rattle.rules.specs.Rows.{Rows}
 
 -- n processes, and the one that is current

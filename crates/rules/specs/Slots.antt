@@ -8,6 +8,8 @@ use native.Mathlib.Omega.{arith}
 use lib.ListN.{length, getD, take, drop, set, length-append, length-drop, length-map, take-append-drop, List·getD-append}
 use lib.Seq.{getD-append-add, drop-drop, take-at, drop-at}
 use Rattle.common.specs.First.{firstOf}
+use Rattle.common.proofs.Lists.{map-set}
+use Rattle.common.proofs.Tab.{map-at}
 use Rattle.memory.specs.Overlay.{noSite}
 use Rattle.fit.specs.Arrays.{noId, idOf, siteOf, idsOf, sitesOf, plainsOf}
 use Rattle.fit.specs.Fit.{entryAt}
@@ -15,19 +17,6 @@ use Rattle.target.specs.Free.{isFree, firstFree}
 use Rattle.target.specs.Fresh.{noEntry}
 use Rattle.target.specs.declared.Entry.{Entry}
 use Rattle.rules.specs.Request.{withPlains}
-
--- ---- a function of each element
-
-module _ {A B : Type 0} (f : A → B) where
-  map-at : (l : List A) (d : A) (d′ : B) (k : ℕ) → k < length l → getD (map f l) k d′ ≡ f (getD l k d)
-  map-at [] d d′ k h = absurd (not-suc-le-zero h)
-  map-at (x ∷ xs) d d′ zero h = refl
-  map-at (x ∷ xs) d d′ (suc k) h = map-at xs d d′ k (le-of-suc-le-suc h)
-
-  map-set : (l : List A) (k : ℕ) (y : A) → map f (set l k y) ≡ set (map f l) k (f y)
-  map-set [] k y = refl
-  map-set (x ∷ xs) zero y = refl
-  map-set (x ∷ xs) (suc k) y = ap (λ (l : List B). f x ∷ l) (map-set xs k y)
 
 -- ---- one slot
 
