@@ -26,7 +26,7 @@ use Rattle.rules.specs.Record.{withTable, withDraft, withEntries}
 use Rattle.rules.specs.Request.{withPlains}
 use Rattle.rules.specs.Slots.{length-sites, site-at, site-used, site-free, sites-set, length-with, with-at, sites-with}
 use Rattle.rules.specs.FitFacts.{eight-sites, slot-used, slot-free, slot-only, sixteen-plains}
-use Rattle.rules.specs.Rows.{Row, at-set, rows-set, rows-with, fresh-free, rows-fresh}
+use Rattle.rules.specs.Rows.{Row, stored-at, rows-set, rows-with, fresh-free, rows-fresh}
 use Rattle.rules.specs.Parts.{TableParts, parts-of, good-table}
 use Rattle.rules.specs.KeptDraft.{closed-fit, freed-fit, with-fit}
 
@@ -79,7 +79,7 @@ module _ {head : Head} (t : Target) (mem : List ℕ) (g : Good head t mem) where
 
   -- the shapes of the entries
   stored : (k : ℕ) (e : Entry) → k < 8 → ShapedEntry e → (j : ℕ) → j < 8 → ShapedEntry (entryAt (set es k e) j)
-  stored k e h s j l = at-set es (old .eight) k e h ShapedEntry j (λ q. s) (λ n. old .entry j l)
+  stored k e h s j l = stored-at es (old .eight) k e h ShapedEntry j (λ q. s) (λ n. old .entry j l)
 
   -- a breakpoint is made in a free entry, and nothing is in hand
   pub good-made : (k : ℕ) (e : Entry) → k < 8 → isFree (entryAt (t .table .entries) k) ≡ true → ShapedEntry e → isFree e ≡ false
