@@ -24,7 +24,7 @@ use Rattle.target.specs.declared.Entry.{Entry}
 use Rattle.target.specs.declared.Process.{Process}
 use Rattle.target.specs.declared.Target.{Target}
 use Rattle.rules.specs.Breakpoint.{sites, plains}
-use Rattle.rules.specs.Facts.{Used, UsedFacts, Facts, Good}
+use Rattle.rules.specs.Facts.{Differ, Used, UsedFacts, Facts, Good}
 use Rattle.rules.specs.Slots.{length-sites, site-at, site-used, site-free, length-plains, plain-byte}
 
 -- ---- keys that no two have, one before the other, are different
@@ -167,12 +167,12 @@ module _ (head : Head) (t : Target) (mem : List ℕ) where
         every-at k (λ i. apart (entryAt (t .table .entries) i) (entryAt (t .table .entries) k)) (search parts) j l
 
     -- so ids differ
-    pub ids-differ : (j k : ℕ) → Used t j → Used t k → entryAt (t .table .entries) j .id ≡ entryAt (t .table .entries) k .id → j ≡ k
+    pub ids-differ : Differ (λ e. e .id) (t .table .entries)
     ids-differ = differ (Used t) (λ k. entryAt (t .table .entries) k .id)
         (λ j k l u v. apart-differ _ _ (slots-apart j k l (v .0)) (u .1) (v .1) .0)
 
     -- and sites do
-    pub sites-differ : (j k : ℕ) → Used t j → Used t k → entryAt (t .table .entries) j .site ≡ entryAt (t .table .entries) k .site → j ≡ k
+    pub sites-differ : Differ (λ e. e .site) (t .table .entries)
     sites-differ = differ (Used t) (λ k. entryAt (t .table .entries) k .site)
         (λ j k l u v. apart-differ _ _ (slots-apart j k l (v .0)) (u .1) (v .1) .1)
 
@@ -203,8 +203,7 @@ module _ (head : Head) (t : Target) (mem : List ℕ) where
 
   -- used entries that hold what they are to, and differ, are fit
   pub entries-fit : ((k : ℕ) → Used t k → UsedFacts head t mem (entryAt (t .table .entries) k))
-      → ((j k : ℕ) → Used t j → Used t k → entryAt (t .table .entries) j .id ≡ entryAt (t .table .entries) k .id → j ≡ k)
-      → ((j k : ℕ) → Used t j → Used t k → entryAt (t .table .entries) j .site ≡ entryAt (t .table .entries) k .site → j ≡ k)
+      → Differ (λ e. e .id) (t .table .entries) → Differ (λ e. e .site) (t .table .entries)
       → entriesFit head (t .base) mem (t .table .entries) ≡ true
   unfolding entriesFit slotFit
   entries-fit used ids sites = every-all 8 _ (λ k l. rw (

@@ -7,14 +7,15 @@ use native.Mathlib.Omega.{arith}
 use borrow.Author.Tests.{leb-true, leb-false, eqb-true, eqb-false, eq-eqb, ne-eqb}
 use lib.Dec.{leb, eqb}
 use lib.ListN.{length, getD, set, take, drop, length-map, List·getD-eq-default, List·getD-map}
-use lib.Seq.{length-take-le, getD-take, getD-set-same, getD-set-other, map-set-same, ext-getD}
+use lib.Seq.{length-take-le, getD-take, map-set-same, ext-getD}
 use Rattle.common.specs.First.{firstOf}
 use Rattle.common.specs.Keys.{among}
 use Rattle.common.specs.Tab.{tab}
 use Rattle.common.proofs.First.{first-holds}
 use Rattle.common.proofs.Tab.{length-tab}
 use Rattle.fit.specs.Fit.{processAt, processOf}
-use Rattle.common.proofs.Cases.{on-test, on-same, same-eqb}
+use Rattle.common.proofs.Cases.{on-test, same-eqb}
+use Rattle.common.proofs.Lists.{at-set}
 use Rattle.memory.specs.Head.{Head}
 use Rattle.target.specs.Fresh.{noProcess}
 use Rattle.target.specs.declared.Process.{Process}
@@ -98,9 +99,8 @@ pub halted-stored : (n : ℕ) (ps : List Process) (l l′ : List ℕ) (i state w
     → ((j : ℕ) → j < n → (j ≡ i → ⊥) → among l′ (processAt ps j .pid) ≡ among l (processAt ps j .pid))
     → Halted n ps l → Halted n (set ps i (withState (processAt ps i) state wanted)) l′
 unfolding withState isStopped
-halted-stored n ps l l′ i state wanted below now rest v j h = on-same j i
-    (λ q. rw (q, getD-set-same ps i _ noProcess below) now)
-    (λ q. rw (getD-set-other ps i j _ noProcess q) (v j h ∙ sym (rest j h q)))
+halted-stored n ps l l′ i state wanted below now rest v j h =
+    at-set ps i _ noProcess j (λ q. below) (λ p. isStopped p ≡ among l′ (p .pid)) (λ q. now) (λ q. v j h ∙ sym (rest j h q))
 
 -- ---- a restart
 

@@ -5,6 +5,8 @@ use mathlib.Core.List.{List, [], _∷_}
 use Prim.Native.Nat.{ℕ, _+_, _-_, _*_, _<_}
 use native.Mathlib.Omega.{arith}
 use lib.ListN.{length, getD, set, replicate, length-set}
+use lib.Seq.{getD-set-same, getD-set-other}
+use Rattle.common.proofs.Lists.{at-set}
 use Rattle.fit.specs.Arrays.{siteOf, sitesOf, plainsOf}
 use Rattle.fit.specs.Fit.{entryAt}
 use Rattle.memory.specs.Head.{Head, trapBytes}
@@ -15,7 +17,7 @@ use Rattle.memory.specs.declared.Place.{Place}
 use Rattle.memory.specs.declared.Place.the-variants.{Registers, Window, Nowhere}
 use borrow.Author.Tests.{ltb-true}
 use Rattle.common.proofs.Same.{true-or-false, and-both}
-use Rattle.common.proofs.Cases.{on-test, on-same, same-test}
+use Rattle.common.proofs.Cases.{on-test, same-test}
 use Rattle.common.proofs.Tab.{pair-at}
 use Rattle.memory.proofs.Site.{no-site-free}
 use Rattle.memory.proofs.Slots.{slot-below, slot-site, covered-by, free-slots}
@@ -23,7 +25,7 @@ use Rattle.memory.proofs.Bytes.{length-plain-after, no-traps}
 use Rattle.memory_laws.specs.Laws.{laid-plain, laid-same, plain-written}
 use Rattle.memory_laws.specs.Planting.{planted-plain, removed-plain}
 use Rattle.target.specs.Free.{isFree}
-use Rattle.target.specs.Fresh.{freshEntry}
+use Rattle.target.specs.Fresh.{noEntry, freshEntry}
 use Rattle.target.specs.declared.Entry.{Entry}
 use Rattle.target.specs.declared.Target.{Target}
 use Rattle.rules.specs.Breakpoint.{sites, plains}
@@ -33,7 +35,7 @@ use Rattle.rules.specs.Facts.{Good, Used}
 use Rattle.rules.specs.Slots.{sites-set, plain-byte, sites-with, plains-with}
 use Rattle.rules.specs.FitFacts.{planted-of, slot-used, slot-free, slot-only, slot-byte, eight-sites, sixteen-plains}
 use Rattle.rules.specs.Agree.{dressed, Agree}
-use Rattle.rules.specs.Listed.{member-place, place-member, entry-here, entry-away}
+use Rattle.rules.specs.Listed.{member-place, place-member}
 
 -- ---- real memory is the book's
 
@@ -107,13 +109,13 @@ module _ {head : Head} (t : Target) (mem : List ℕ) (good : Good head t mem)
   size = length-set es k e ∙ good .shaped .entries
 
   here : entryAt (set es k e) k ≡ e
-  here = entry-here es k e (omega (arith, good .shaped .entries))
+  here = getD-set-same es k e noEntry (omega (arith, good .shaped .entries))
 
   -- every entry has two plain bytes
   wide : (j : ℕ) → j < length (set es k e) → length (entryAt (set es k e) j .plain) ≡ 2
-  wide j h = on-same j k
-      (λ q. ap (λ (x : Entry). length (x .plain)) (ap (entryAt (set es k e)) q ∙ here) ∙ two)
-      (λ n. ap (λ (x : Entry). length (x .plain)) (entry-away es k e j n) ∙ good .shaped .entry j (omega (arith, size)) .plain)
+  wide j h =
+      at-set es k e noEntry j (λ q. omega (arith, size, length-set es k e)) (λ x. length (x .plain) ≡ 2) (λ q. two)
+      (λ n. good .shaped .entry j (omega (arith, size)) .plain)
 
   -- those of the entry
   stored-plain : (r : ℕ) → r < 2 → getD (plainsOf (set es k e)) (k * 2 + r) 0 ≡ getD (e .plain) r 0
@@ -124,7 +126,7 @@ module _ {head : Head} (t : Target) (mem : List ℕ) (good : Good head t mem)
   kept-plain : (j r : ℕ) → j < 8 → r < 2 → (j ≡ k → ⊥) → getD (plainsOf (set es k e)) (j * 2 + r) 0 ≡ getD (plainsOf es) (j * 2 + r) 0
   kept-plain j r h g n =
       plain-byte (set es k e) wide j r (omega (arith, size)) g
-      ∙ ap (λ (x : Entry). getD (x .plain) r 0) (entry-away es k e j n)
+      ∙ ap (λ (x : Entry). getD (x .plain) r 0) (getD-set-other es k j e noEntry n)
       ∙ sym (slot-byte t mem good j r h g)
 
 -- ---- plain memory stays as it was

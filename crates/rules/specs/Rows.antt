@@ -13,15 +13,8 @@ use Rattle.target.specs.Free.{isFree}
 use Rattle.target.specs.Fresh.{noEntry, freshEntry}
 use Rattle.target.specs.declared.Entry.{Entry}
 use Rattle.rules.specs.Request.{withPlains}
+use Rattle.rules.specs.Facts.{UsedIn, Differ}
 use Rattle.rules.specs.Slots.{withPlain, with-at}
-
--- entry k is used
-abbrev pub UsedIn : List Entry → ℕ → Type 0
-UsedIn es k = (k < 8) × (isFree (entryAt es k) ≡ false)
-
--- used entries have keys of their own
-abbrev pub Differ : (Entry → ℕ) → List Entry → Type 0
-Differ key es = (j k : ℕ) → UsedIn es j → UsedIn es k → key (entryAt es j) ≡ key (entryAt es k) → j ≡ k
 
 -- a used entry over a window of n bytes at base
 pub record Row (base n : ℕ) (e : Entry) : Type 0 where
@@ -72,7 +65,7 @@ module _ (es : List Entry) (size : length es ≡ 8) (k : ℕ) (e : Entry) (h : k
 
 module _ (es : List Entry) (size : length es ≡ 8) (bytes : List ℕ) where
   -- what does not look at them is as it was
-  with-same : {A : Type 0} (f : Entry → A) → ((e : Entry) (p : List ℕ) → f (withPlain e p) ≡ f e) → (k : ℕ) → k < 8
+  pub with-same : {A : Type 0} (f : Entry → A) → ((e : Entry) (p : List ℕ) → f (withPlain e p) ≡ f e) → (k : ℕ) → k < 8
       → f (entryAt (withPlains es bytes) k) ≡ f (entryAt es k)
   with-same f same k h = ap f (with-at es bytes k (omega arith)) ∙ same (entryAt es k) _
 
