@@ -4,12 +4,12 @@ use mathlib.Core.Bool.{Bool, false, cond, true}
 use mathlib.Core.List.{List, []}
 use Prim.Native.Nat.{ℕ, _-_, _≤_, _<_}
 use native.Mathlib.Omega.{arith}
-use borrow.Author.Tests.{ltb-true, ltb-false, eqb-true, eq-eqb, ne-eqb, lt-ltb, not-true}
+use borrow.Author.Tests.{ltb-true, ltb-false, lt-ltb, not-true}
 use lib.Dec.{ltb, eqb}
 use lib.ListN.{length, take}
 use Rattle.common.specs.First.{firstOf}
 use Rattle.common.specs.Keys.{among}
-use Rattle.fit.specs.Fit.{processAt, entryAt, entryOf}
+use Rattle.fit.specs.Fit.{processAt, entryOf}
 use Rattle.memory.specs.Head.{Head}
 use Rattle.memory.specs.Place.{placeOf}
 use Rattle.memory.specs.declared.Place.the-variants.{Window}
@@ -24,14 +24,13 @@ use Rattle.rules.specs.Record.{withDraft as withHand, ready, indexOf, wi
 use Rattle.rules.specs.Record.{blockAt, pcOf}
 use Rattle.rules.specs.Breakpoint.{breakpointAt, planted, removed, removedAt}
 use Rattle.rules.specs.Request.{windowWritten}
-use Rattle.rules.specs.Book.{Breakpoint, Book, Setup, withBreakpoints, withStopped, without, others, intoWindow, inWindow, bookWrite}
+use Rattle.rules.specs.Book.{Book, Setup, withBreakpoints, withStopped, without, others, intoWindow, inWindow, bookWrite}
 use Rattle.rules.specs.Book.{bookStart, bookServed, bookRequest, isAccepted, Pending, withDraft, joins, sets, bookCondbreak}
-use Rattle.rules.specs.Facts.{Used}
 use Rattle.rules.specs.FitFacts.{facts-of}
 use Rattle.rules.specs.Agree.{dressed, Follows, Agree, pendingOf, Drafted}
 use Rattle.rules.specs.Laid.{same-place, in-window}
 use Rattle.rules.specs.Halted.{listed, listed-pid, pid-place, among-others, among-gone}
-use Rattle.rules.specs.Found.{at-used, at-site, at-first, id-is-used, id-is}
+use Rattle.rules.specs.Found.{used-at, at-site, at-first, used-id, id-is}
 use Rattle.rules.specs.Moves.{move-current, move-state, move-removed, move-none, move-written, drafted-none, move-draft, move-planted}
 use mathlib.Core.Option.{Option, none, some}
 use native.Mathlib.Numerals.{add-one}
@@ -86,32 +85,25 @@ module _ {head : Head} (s : Setup) (b : Book) (t : Target) (mem regs : List ℕ)
 
   -- the breakpoint at an address goes from the table and from the book
   module _ (address : ℕ) where
-    abbrev at : Breakpoint → Bool
-    at x = eqb (x .site) address
-
     -- at an address that is no breakpoint's
     left-none : length (t .table .entries) ≤ breakpointAt (t .table .entries) address
-        → Follows s (withBreakpoints b (without at (b .breakpoints))) t mem
+        → Follows s (withBreakpoints b (without (λ x. eqb (x .site) address) (b .breakpoints))) t mem
     unfolding dressed
     left-none h =
         let es = t .table .entries in
         let size : length es ≡ 8 = a .good .shaped .entries in
-        move-none s b t mem v (a .good) regs at
-        (λ j u. let below : j < length es = omega (arith, u .0) in
-        ne-eqb (entryAt es j .site) address (λ q. omega (arith, at-first es address j below (u .1) q)))
+        move-none s b t mem v (a .good) regs (λ x. x .site) address
+        (λ j u q. let below : j < length es = omega (arith, u .0) in omega (arith, at-first es address j below (u .1) q))
 
     -- at a breakpoint's
     left-one : breakpointAt (t .table .entries) address < length (t .table .entries)
-        → let k = breakpointAt (t .table .entries) address in
-        Follows s (withBreakpoints b (without at (b .breakpoints))) (removed w k .target) (removed w k .mem)
+        → let o = removed w (breakpointAt (t .table .entries) address) in
+        Follows s (withBreakpoints b (without (λ x. eqb (x .site) address) (b .breakpoints))) (o .target) (o .mem)
     unfolding dressed
     left-one h =
         let es = t .table .entries in
-        let k = breakpointAt es address in
-        let used : Used t k = (omega (arith, a .good .shaped .entries), at-used es address h) in
-        let here : entryAt es k .site ≡ address = at-site es address h in
-        move-removed s b t mem v (a .good) regs at k used (eq-eqb _ _ here)
-        (λ j u e. facts-of t mem (a .good) .sitesDiffer j k u used (eqb-true _ _ e ∙ sym here))
+        move-removed s b t mem v (a .good) regs (λ x. x .site) address _ (used-at es address (a .good .shaped .entries) h)
+        (at-site es address h) (facts-of t mem (a .good) .sitesDiffer)
 
   -- a Stopped process becomes Ready
   module _ (pid : ℕ) (h : indexOf t pid < t .count) where
@@ -138,13 +130,13 @@ module _ {head : Head} (s : Setup) (b : Book) (t : Target) (mem regs : List ℕ)
     -- it is Ready, and the breakpoint at an address is gone
     freed : (address : ℕ)
         → let o = removedAt (world (setState t i ready 0) mem regs) address in
-        Follows s (withBreakpoints (withStopped b (others pid (b .stopped))) (without (at address) (b .breakpoints)))
+        Follows s (withBreakpoints (withStopped b (others pid (b .stopped))) (without (λ x. eqb (x .site) address) (b .breakpoints)))
         (o .target) (o .mem)
     unfolding removedAt removed setState withProcesses withEntries withTable withStopped withBreakpoints
     freed address =
         let es = t .table .entries in
         let k = breakpointAt es address in
-        let b′ = withBreakpoints b (without (at address) (b .breakpoints)) in
+        let b′ = withBreakpoints b (without (λ x. eqb (x .site) address) (b .breakpoints)) in
         let l = others pid (b .stopped) in
         let P : World → Type 0 = λ x. Follows s (withStopped b′ l) (x .target) (x .mem) in
         choose P (ltb k (length es))
@@ -202,12 +194,9 @@ module _ {head : Head} (s : Setup) (b : Book) (t : Target) (mem regs : List ℕ)
   unfolding dressed
   after-deleted val low below =
       let es = t .table .entries in
-      let k = entryOf es val in
       let small : val < 256 = omega arith in
-      let used : Used t k = (omega (arith, a .good .shaped .entries), id-is-used es val small below) in
-      let here : entryAt es k .id ≡ val = id-is es val small below in
-      move-removed s b t mem v (a .good) regs (λ x. eqb (x .id) val) k used (eq-eqb _ _ here)
-      (λ j u q. facts-of t mem (a .good) .idsDiffer j k u used (eqb-true _ _ q ∙ sym here))
+      move-removed s b t mem v (a .good) regs (λ x. x .id) val _ (used-id es val (a .good .shaped .entries) small below)
+      (id-is es val small below) (facts-of t mem (a .good) .idsDiffer)
 
   -- ---- every request
 

@@ -240,8 +240,11 @@ module _ (head : Head) (t : Target) (mem : List ℕ) where
 
 -- ---- a fit record is one of which the facts hold
 
+pub fit-facts : {head : Head} (t : Target) (mem : List ℕ) → fitOf head t mem ≡ true → Facts head t mem
+fit-facts {head} t mem e = facts-by head t mem (tests-of t mem e)
+
 pub facts-of : {head : Head} (t : Target) (mem : List ℕ) → Good head t mem → Facts head t mem
-facts-of {head} t mem g = facts-by head t mem (tests-of t mem (g .fit))
+facts-of t mem g = fit-facts t mem (g .fit)
 
 pub fit-of : {head : Head} (t : Target) (mem : List ℕ) → Facts head t mem → fitOf head t mem ≡ true
 fit-of {head} t mem f = fit-by t mem (tests-by head t mem f)

@@ -26,7 +26,7 @@ use Rattle.rules.specs.Outcomes.{told, noted, halted, marked, started, c
 use Rattle.rules.specs.Outcomes.{yielded, ran, became, set-up, regsOf, by-step}
 use Rattle.rules.specs.Book.{Setup, setupBy}
 use Rattle.rules.specs.Facts.{Good}
-use Rattle.rules.specs.Found.{id-is-used}
+use Rattle.rules.specs.Found.{used-id}
 use Rattle.rules.specs.FitFacts.{facts-of}
 use Rattle.rules.specs.Parts.{parts-of, good-of, good-current}
 use Rattle.rules.specs.KeptProcesses.{mark-none, mark-one, mark-kept, restart-parts, setup-parts}
@@ -57,7 +57,7 @@ module _ {head : Head} (w : World) (g : GoodWorld head w) where
   good-left (cleared h e) = good-state w g _ _ 0 h (mark-none _)
   good-left (begins n s e f) = good-begun w g _ s e f
   good-left (plants n b h s f) = good-planted w g _ h s f
-  good-left (removes n b d l h) = good-removed w g _ h (id-is-used _ _ (omega arith) h)
+  good-left (removes n b d l h) = good-removed w g _ (used-id _ _ (g .shaped .entries) (omega arith) h)
   good-left (adds n b d h r) = good-joined w g _ h r
 
   -- an accepted event

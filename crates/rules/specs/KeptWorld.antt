@@ -12,7 +12,7 @@ use Rattle.common.proofs.Same.{parts}
 use Rattle.condition.specs.Depth.{wellFormed}
 use Rattle.condition.specs.Add.{roomFor, withElement}
 use Rattle.condition.specs.declared.Room.the-variants.{Fits}
-use Rattle.fit.specs.Fit.{stopped, entryAt, entryOf, markFit}
+use Rattle.fit.specs.Fit.{stopped, entryOf, markFit}
 use Rattle.memory.specs.Head.{Head}
 use Rattle.target.specs.Free.{isFree, firstFree}
 use Rattle.target.specs.declared.Element.{Element}
@@ -21,8 +21,8 @@ use Rattle.rules.specs.Record.{withDraft, setState, stopWith}
 use Rattle.rules.specs.Breakpoint.{breakpointAt, madeEntry, planted, removed, removedAt}
 use Rattle.rules.specs.Condition.{dropped, inHand, begun, siteFree}
 use Rattle.rules.specs.Request.{windowWritten}
-use Rattle.rules.specs.Facts.{Good}
-use Rattle.rules.specs.Found.{free-found, at-used, at-first, id-first}
+use Rattle.rules.specs.Facts.{Used, Good}
+use Rattle.rules.specs.Found.{free-found, used-at, at-first, id-first}
 use Rattle.rules.specs.Parts.{parts-of, good-processes}
 use Rattle.rules.specs.KeptProcesses.{mark-none, state-parts}
 use Rattle.rules.specs.KeptDraft.{closed-fit, hand-of, begun-fit, joined-fit}
@@ -77,10 +77,9 @@ module _ {head : Head} (w : World) (g : GoodWorld head w) where
   -- ---- breakpoints and bytes
 
   -- a breakpoint is removed
-  pub good-removed : (k : ℕ) → k < length (w .target .table .entries) → isFree (entryAt (w .target .table .entries) k) ≡ false
-      → GoodWorld head (removed w k)
+  pub good-removed : (k : ℕ) → Used (w .target) k → GoodWorld head (removed w k)
   unfolding removed
-  good-removed k h u = good-freed (w .target) (w .mem) g k (omega (arith, g .shaped .entries), u)
+  good-removed k u = good-freed (w .target) (w .mem) g k u
 
   -- the one at an address is, where there is one
   pub good-removed-at : (address : ℕ) → GoodWorld head (removedAt w address)
@@ -88,7 +87,7 @@ module _ {head : Head} (w : World) (g : GoodWorld head w) where
   good-removed-at address =
       let es = w .target .table .entries in
       choose (GoodWorld head) (ltb (breakpointAt es address) (length es))
-      (λ e. let h = ltb-true _ _ e in good-removed (breakpointAt es address) h (at-used es address h)) (λ e. g)
+      (λ e. good-removed (breakpointAt es address) (used-at es address (g .shaped .entries) (ltb-true _ _ e))) (λ e. g)
 
   -- one is made
   pub good-planted : (site : ℕ) → inHand w ≡ true → siteFree w site ≡ true

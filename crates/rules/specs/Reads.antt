@@ -41,7 +41,7 @@ use Rattle.rules.specs.Book.{Breakpoint, Book, Setup, inWindow, isAccept
 use Rattle.rules.specs.Book.{answerAmong, trapBy, RightStep}
 use Rattle.rules.specs.Facts.{Used}
 use Rattle.rules.specs.FitFacts.{facts-of, slot-used, slot-multiple, slot-only, slot-byte, eight-sites}
-use Rattle.rules.specs.Found.{at-used, at-site}
+use Rattle.rules.specs.Found.{used-at, at-site}
 use Rattle.rules.specs.Agree.{dressed, Agree}
 use Rattle.rules.specs.Laid.{in-window}
 use Rattle.memory.proofs.Parts.{within-window}
@@ -129,10 +129,6 @@ module _ {head : Head} (s : Setup) (b : Book) (t : Target) (mem : List ℕ) (a :
 
   -- ---- a trap event
 
-  -- the breakpoint that is found is used
-  used-at : (pc : ℕ) → breakpointAt (t .table .entries) pc < length (t .table .entries) → Used t (breakpointAt (t .table .entries) pc)
-  used-at pc h = (omega (arith, a .good .shaped .entries), at-used (t .table .entries) pc h)
-
   -- the answer is that of the one breakpoint at the address
   answer-only : (pid pc : ℕ) (x : Breakpoint) → x .site ≡ pc → (l : List Breakpoint) → List·Memᴰ x l
       → ((y : Breakpoint) → List·Memᴰ y l → y .site ≡ pc → y ≡ x) → answerAmong head s b pid pc l ≡ answerOf head s b pid x
@@ -152,7 +148,7 @@ module _ {head : Head} (s : Setup) (b : Book) (t : Target) (mem : List ℕ) (a :
   answers-found pid pc h =
       let es = t .table .entries in
       let k = breakpointAt es pc in
-      let used : Used t k = used-at pc h in
+      let used : Used t k = used-at es pc (a .good .shaped .entries) h in
       let here : entryAt es k .site ≡ pc = at-site es pc h in
       answer-only pid pc (dressed (entryAt es k)) here (b .breakpoints) (a .follows .breakpoints .into k used)
       (λ y m q. let f = a .follows .breakpoints .from y m in
@@ -199,7 +195,7 @@ module _ {head : Head} (s : Setup) (b : Book) (t : Target) (mem : List ℕ) (a :
   reads-heard {regs = regs} (caught {block = block} {pid = pid} h k e) = λ z.
       sym (answers-found pid (pcOf block) k ∙ rw (reads-holds regs pid (hit (world t mem regs) block) ∙ e))
   reads-heard {regs = regs} (released {block = block} {pid = pid} k e) = λ z.
-      let u = used-at (pcOf block) k in
+      let u = used-at (t .table .entries) (pcOf block) (a .good .shaped .entries) k in
       let x : Entry = hit (world t mem regs) block in
       let first : getD (x .plain) 0 0 ≡ getD (b .plain) (x .site - s .base) 0 = reads-pass _ 0 u (omega arith) ∙ rw add-zero in
       sym (answers-found pid (pcOf block) k ∙ rw (reads-holds regs pid x ∙ e, ← first, ← (reads-pass _ 1 u (omega arith))))
