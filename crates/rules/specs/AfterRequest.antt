@@ -8,7 +8,6 @@ use borrow.Author.Tests.{ltb-true, ltb-false, lt-ltb, not-true}
 use lib.Dec.{ltb, eqb}
 use lib.ListN.{length, take}
 use Rattle.common.specs.First.{firstOf}
-use Rattle.common.specs.Keys.{among}
 use Rattle.fit.specs.Fit.{processAt, entryOf}
 use Rattle.memory.specs.Head.{Head}
 use Rattle.memory.specs.Place.{placeOf}
@@ -20,7 +19,7 @@ use Rattle.wire.specs.Message.{bytes4, bytesOf, typeOf}
 use Rattle.wire.specs.declared.Data4.{Data4}
 use Rattle.wire.specs.declared.Message.{Message}
 use Rattle.rules.specs.Outcome.{World, world, Outcome, replied, error}
-use Rattle.rules.specs.Record.{withDraft as withHand, ready, indexOf, withTable, withEntries, withProcesses, setState, isStopped}
+use Rattle.rules.specs.Record.{withDraft as withHand, ready, indexOf, setState, isStopped}
 use Rattle.rules.specs.Record.{blockAt, pcOf}
 use Rattle.rules.specs.Breakpoint.{breakpointAt, planted, removed, removedAt}
 use Rattle.rules.specs.Request.{windowWritten}
@@ -29,9 +28,11 @@ use Rattle.rules.specs.Book.{bookStart, bookServed, bookRequest, isAccep
 use Rattle.rules.specs.FitFacts.{facts-of}
 use Rattle.rules.specs.Agree.{dressed, Follows, Agree, pendingOf, Drafted}
 use Rattle.rules.specs.Laid.{same-place, in-window}
-use Rattle.rules.specs.Halted.{listed, listed-pid, pid-place, among-others, among-gone}
+use Rattle.rules.specs.Halted.{pid-place, among-others, among-gone}
 use Rattle.rules.specs.Found.{used-at, at-site, at-first, used-id, id-is}
-use Rattle.rules.specs.Moves.{move-current, move-state, move-removed, move-none, move-written, drafted-none, move-draft, move-planted}
+use Rattle.rules.specs.KeptProcesses.{mark-none}
+use Rattle.rules.specs.KeptWorld.{good-state}
+use Rattle.rules.specs.Moves.{move-current, its-state, move-named, move-kept, move-removed, move-none, move-written, drafted-none, move-draft, move-planted}
 use mathlib.Core.Option.{Option, none, some}
 use native.Mathlib.Numerals.{add-one}
 use lib.Seq.{take-suc-set}
@@ -51,6 +52,38 @@ joins-both : (d : Draft) (o : Option Pending) (e : Element) → d .count < lengt
 unfolding withElement joins pendingOf
 joins-both d o e room v h =
     rw (v h, add-one (d .count), take-suc-set (d .elements) (d .count) e room)
+
+-- the breakpoint at an address goes from the table and from the book
+module _ {head : Head} (s : Setup) (b : Book) (t : Target) (mem regs : List ℕ) (a : Agree head s b t mem) where
+  -- at an address that is no breakpoint's
+  left-none : (address : ℕ) → length (t .table .entries) ≤ breakpointAt (t .table .entries) address
+      → Follows s (withBreakpoints b (without (λ x. eqb (x .site) address) (b .breakpoints))) t mem
+  unfolding dressed
+  left-none address h =
+      let es = t .table .entries in
+      let size : length es ≡ 8 = a .good .shaped .entries in
+      move-none s b t mem (a .follows) (a .good) regs (λ x. x .site) address
+      (λ j u q. let below : j < length es = omega (arith, u .0) in omega (arith, at-first es address j below (u .1) q))
+
+  -- at a breakpoint's
+  left-one : (address : ℕ) → breakpointAt (t .table .entries) address < length (t .table .entries)
+      → let o = removed (world t mem regs) (breakpointAt (t .table .entries) address) in
+      Follows s (withBreakpoints b (without (λ x. eqb (x .site) address) (b .breakpoints))) (o .target) (o .mem)
+  unfolding dressed
+  left-one address h =
+      let es = t .table .entries in
+      move-removed s b t mem (a .follows) (a .good) regs (λ x. x .site) address _ (used-at es address (a .good .shaped .entries) h)
+      (at-site es address h) (facts-of t mem (a .good) .sitesDiffer)
+
+  left-at : (address : ℕ)
+      → let o = removedAt (world t mem regs) address in
+      Follows s (withBreakpoints b (without (λ x. eqb (x .site) address) (b .breakpoints))) (o .target) (o .mem)
+  unfolding removedAt
+  left-at address =
+      let P : World → Type 0 =
+      λ o. Follows s (withBreakpoints b (without (λ x. eqb (x .site) address) (b .breakpoints))) (o .target) (o .mem) in
+      choose P (ltb (breakpointAt (t .table .entries) address) (length (t .table .entries)))
+      (λ e. left-one address (ltb-true _ _ e)) (λ e. left-none address (ltb-false _ _ e))
 
 module _ {head : Head} (s : Setup) (b : Book) (t : Target) (mem regs : List ℕ) (a : Agree head s b t mem) where
   abbrev w : World
@@ -78,86 +111,29 @@ module _ {head : Head} (s : Setup) (b : Book) (t : Target) (mem regs : List ℕ)
 
   -- ---- Tstop and Tstart
 
-  -- a process with another mark
-  remarked : (i wanted : ℕ) → i < t .count → Follows s b (setState t i (processAt (t .processes) i .state) wanted) mem
-  unfolding isStopped withStopped
-  remarked i wanted h = move-state s b t mem v i _ wanted (b .stopped) (listed t mem (a .good) i h) (v .stopped i h) (λ j g n. refl)
+  -- its block is the one that the book looks at
+  its-block : (pid : ℕ) → blockAt regs (firstOf (eqb pid) (take (s .count) (s .pids))) ≡ blockAt regs (indexOf t pid)
+  its-block pid = ap (λ l. blockAt regs (firstOf (eqb pid) l)) (sym (v .pids)) ∙ ap (blockAt regs) (pid-place (t .processes) (t .count) pid)
 
-  -- the breakpoint at an address goes from the table and from the book
-  module _ (address : ℕ) where
-    -- at an address that is no breakpoint's
-    left-none : length (t .table .entries) ≤ breakpointAt (t .table .entries) address
-        → Follows s (withBreakpoints b (without (λ x. eqb (x .site) address) (b .breakpoints))) t mem
-    unfolding dressed
-    left-none h =
-        let es = t .table .entries in
-        let size : length es ≡ 8 = a .good .shaped .entries in
-        move-none s b t mem v (a .good) regs (λ x. x .site) address
-        (λ j u q. let below : j < length es = omega (arith, u .0) in omega (arith, at-first es address j below (u .1) q))
-
-    -- at a breakpoint's
-    left-one : breakpointAt (t .table .entries) address < length (t .table .entries)
-        → let o = removed w (breakpointAt (t .table .entries) address) in
-        Follows s (withBreakpoints b (without (λ x. eqb (x .site) address) (b .breakpoints))) (o .target) (o .mem)
-    unfolding dressed
-    left-one h =
-        let es = t .table .entries in
-        move-removed s b t mem v (a .good) regs (λ x. x .site) address _ (used-at es address (a .good .shaped .entries) h)
-        (at-site es address h) (facts-of t mem (a .good) .sitesDiffer)
-
-  -- a Stopped process becomes Ready
-  module _ (pid : ℕ) (h : indexOf t pid < t .count) where
-    abbrev i : ℕ
-    i = indexOf t pid
-
-    -- it has the pid
-    its-pid : processAt (t .processes) i .pid ≡ pid
-    its-pid = listed-pid t mem (a .good) pid h
-
-    -- it is Stopped where the book has its pid
-    its-state : isStopped (processAt (t .processes) i) ≡ among (b .stopped) pid
-    its-state = v .stopped i h ∙ ap (among (b .stopped)) its-pid
-
-    -- the book has it no longer
-    gone : false ≡ among (others pid (b .stopped)) (processAt (t .processes) i .pid)
-    gone = sym (ap (among (others pid (b .stopped))) its-pid ∙ among-gone pid (b .stopped))
-
-    -- and has the others as before
-    rest : (j : ℕ) → j < t .count → (j ≡ i → ⊥)
-        → among (others pid (b .stopped)) (processAt (t .processes) j .pid) ≡ among (b .stopped) (processAt (t .processes) j .pid)
-    rest j g n = among-others pid _ (b .stopped) (λ q. n (facts-of t mem (a .good) .pidsDiffer j i g h (q ∙ sym its-pid)))
-
-    -- it is Ready, and the breakpoint at an address is gone
-    freed : (address : ℕ)
-        → let o = removedAt (world (setState t i ready 0) mem regs) address in
-        Follows s (withBreakpoints (withStopped b (others pid (b .stopped))) (without (λ x. eqb (x .site) address) (b .breakpoints)))
-        (o .target) (o .mem)
-    unfolding removedAt removed setState withProcesses withEntries withTable withStopped withBreakpoints
-    freed address =
-        let es = t .table .entries in
-        let k = breakpointAt es address in
-        let b′ = withBreakpoints b (without (λ x. eqb (x .site) address) (b .breakpoints)) in
-        let l = others pid (b .stopped) in
-        let P : World → Type 0 = λ x. Follows s (withStopped b′ l) (x .target) (x .mem) in
-        choose P (ltb k (length es))
-        (λ e. move-state s b′ (removed w k .target) (removed w k .mem) (left-one address (ltb-true _ _ e)) i ready 0 l
-        (listed t mem (a .good) i h) gone rest)
-        (λ e. move-state s b′ t mem (left-none address (ltb-false _ _ e)) i ready 0 l (listed t mem (a .good) i h) gone rest)
-
-    -- its block is the one that the book looks at
-    its-block : blockAt regs (firstOf (eqb pid) (take (s .count) (s .pids))) ≡ blockAt regs i
-    its-block = ap (λ l. blockAt regs (firstOf (eqb pid) l)) (sym (v .pids)) ∙ ap (blockAt regs) (pid-place (t .processes) (t .count) pid)
-
+  -- a Stopped process is Ready, and then the breakpoint at its saved pc goes
   after-started : (pid : ℕ) → indexOf t pid < t .count → isStopped (processAt (t .processes) (indexOf t pid)) ≡ true
       → let o = removedAt (world (setState t (indexOf t pid) ready 0) mem regs) (pcOf (blockAt regs (indexOf t pid))) in
       Follows s (bookStart s b regs pid) (o .target) (o .mem)
-  unfolding bookStart
-  after-started pid h e = rw (sym (its-state pid h) ∙ e, its-block pid h) (freed pid h (pcOf (blockAt regs (indexOf t pid))))
+  unfolding bookStart withStopped
+  after-started pid h e =
+      rw (sym (its-state s b t mem v (a .good) pid h) ∙ e, its-block pid)
+      (left-at s (withStopped b (others pid (b .stopped))) (setState t (indexOf t pid) ready 0) mem regs
+      (record {
+        good = good-state w (a .good) (indexOf t pid) ready 0 h (mark-none ready);
+        follows = move-named s b t mem v (a .good) pid h ready 0 (others pid (b .stopped)) (sym (among-gone pid (b .stopped)))
+            (λ y n. among-others pid y (b .stopped) n);
+      })
+      (pcOf (blockAt regs (indexOf t pid))))
 
   after-cleared : (pid : ℕ) → indexOf t pid < t .count → isStopped (processAt (t .processes) (indexOf t pid)) ≡ false
       → Follows s (bookStart s b regs pid) (setState t (indexOf t pid) (processAt (t .processes) (indexOf t pid) .state) 0) mem
-  unfolding bookStart
-  after-cleared pid h e = rw (sym (its-state pid h) ∙ e) (remarked (indexOf t pid) 0 h)
+  unfolding bookStart isStopped
+  after-cleared pid h e = rw (sym (its-state s b t mem v (a .good) pid h) ∙ e) (move-kept s b t mem v (a .good) pid h _ 0 refl)
 
   -- ---- Tcondbreak
 
@@ -201,7 +177,7 @@ module _ {head : Head} (s : Setup) (b : Book) (t : Target) (mem regs : List ℕ)
   -- ---- every request
 
   after-left : {p : Parsed} {q : Message} {o : World} → Left head w p q o → Follows s (bookRequest s b regs p) (o .target) (o .mem)
-  unfolding bookRequest bookServed bookCondbreak
+  unfolding bookRequest bookServed bookCondbreak isStopped
   after-left (got d h) = v
   after-left (put h p) = after-put _ _ _ h p
   after-left (aside r h) = after-aside _ _ _ h
@@ -209,7 +185,7 @@ module _ {head : Head} (s : Setup) (b : Book) (t : Target) (mem regs : List ℕ)
   after-left (told x) = v
   after-left noted = v
   after-left halted = v
-  after-left (marked h e) = remarked _ 1 h
+  after-left (marked h e) = move-kept s b t mem v (a .good) _ h _ 1 refl
   after-left (started h e) = after-started _ h e
   after-left (cleared h e) = after-cleared _ h e
   after-left (begins n x y z) = rw n (after-begun _)

@@ -1,11 +1,10 @@
 -- Events and every step: after each, the record and its memory follow the book.
-use mathlib.Core.Path.{_≡_, refl, sym, ap, _∙_}
+use mathlib.Core.Path.{_≡_, refl, sym, _∙_}
 use mathlib.Core.Bool.{false}
 use mathlib.Core.List.{List, [], _∷_}
 use Prim.Native.Nat.{ℕ, _<_}
 use lib.Dec.{eqb}
-use Rattle.common.specs.Keys.{among}
-use Rattle.fit.specs.Fit.{stopped, processAt}
+use Rattle.fit.specs.Fit.{stopped}
 use Rattle.memory.specs.Head.{Head}
 use Rattle.target.specs.declared.Target.{Target}
 use Rattle.rules.specs.Outcome.{World, world, answered, refused, replied}
@@ -13,10 +12,9 @@ use Rattle.rules.specs.Record.{indexOf, stopWith}
 use Rattle.rules.specs.Event.{restart}
 use Rattle.rules.specs.Step.{Step, request, trapEvent, scheduleEvent, stateEvent, restartStep, stepOf}
 use Rattle.rules.specs.Book.{Book, Setup, withStopped, bookAnswer, isAccepted, fed}
-use Rattle.rules.specs.FitFacts.{facts-of}
 use Rattle.rules.specs.Agree.{Follows, Agree}
-use Rattle.rules.specs.Halted.{listed, listed-pid, among-more, among-here}
-use Rattle.rules.specs.Moves.{move-state, move-restart}
+use Rattle.rules.specs.Halted.{among-more, among-here}
+use Rattle.rules.specs.Moves.{move-named, move-kept, move-restart}
 use Rattle.rules.specs.declared.Answer.{Answer}
 use Rattle.rules.specs.declared.Answer.the-variants.{Nothing}
 use Rattle.rules.specs.Outcomes.{Heard, caught, released, yielded, ran, became, regsOf, bufferOf, by-step}
@@ -43,11 +41,8 @@ module _ {head : Head} (s : Setup) (b : Book) (t : Target) (mem regs : List ℕ)
       → let o = stopWith w (indexOf t pid) block in Follows s (withStopped b (pid ∷ b .stopped)) (o .target) (o .mem)
   unfolding stopWith
   now-stopped pid block h =
-      let i = indexOf t pid in
-      let q : processAt (t .processes) i .pid ≡ pid = listed-pid t mem (a .good) pid h in
-      move-state s b t mem v i stopped 0 (pid ∷ b .stopped) (listed t mem (a .good) i h)
-      (sym (ap (among (pid ∷ b .stopped)) q ∙ among-here pid (b .stopped)))
-      (λ j g n. among-more pid _ (b .stopped) (λ p. n (facts-of t mem (a .good) .pidsDiffer j i g h (p ∙ sym q))))
+      move-named s b t mem v (a .good) pid h stopped 0 (pid ∷ b .stopped) (sym (among-here pid (b .stopped)))
+      (λ y n. among-more pid y (b .stopped) n)
 
   -- an accepted event
   after-heard : {e : Step} {x : Answer} {o : World} → Heard head w e x o → Follows s (fed s b e 0 x []) (o .target) (o .mem)
@@ -56,9 +51,7 @@ module _ {head : Head} (s : Setup) (b : Book) (t : Target) (mem regs : List ℕ)
   after-heard (released k e) = v
   after-heard (yielded {block = block} h) = now-stopped _ block h
   after-heard ran = v
-  after-heard (became {pid = pid} h e n) =
-      let i = indexOf t pid in
-      move-state s b t mem v i _ _ (b .stopped) (listed t mem (a .good) i h) (n ∙ sym e ∙ v .stopped i h) (λ j g d. refl)
+  after-heard (became h e n) = move-kept s b t mem v (a .good) _ h _ _ (n ∙ sym e)
 
 -- every step
 pub after-step : {head : Head} (s : Setup) (b : Book) (t : Target) (mem : List ℕ) → Agree head s b t mem → (e : Step)

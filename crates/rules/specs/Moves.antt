@@ -23,7 +23,7 @@ use Rattle.target.specs.declared.Draft.{Draft}
 use Rattle.target.specs.declared.Process.{Process}
 use Rattle.target.specs.declared.Target.{Target}
 use Rattle.rules.specs.Outcome.{world, replied}
-use Rattle.rules.specs.Record.{withTable, withEntries, withProcesses, withCurrent, setState}
+use Rattle.rules.specs.Record.{withTable, withEntries, withProcesses, withCurrent, indexOf, setState, isStopped}
 use Rattle.rules.specs.Record.{withDraft as withHand}
 use Rattle.rules.specs.Breakpoint.{sites, plains, madeEntry, planted, removed}
 use Rattle.rules.specs.Request.{windowWritten}
@@ -36,7 +36,7 @@ use Rattle.rules.specs.KeptDraft.{hand-of}
 use Rattle.rules.specs.Agree.{dressed, Listed, pendingOf, Drafted, pidsOf, Halted, Follows}
 use Rattle.rules.specs.Listed.{listed-fresh, listed-written, listed-more, listed-all, listed-less}
 use Rattle.rules.specs.Laid.{plain-removed, plain-planted, plain-overwritten, plain-fresh}
-use Rattle.rules.specs.Halted.{pids-stored, halted-stored, pids-restarted, halted-restarted}
+use Rattle.rules.specs.Halted.{listed, listed-pid, pids-stored, halted-stored, pids-restarted, halted-restarted}
 
 -- with nothing in hand nothing is asked of the book's draft
 pub drafted-none : (o : Option Pending) → Drafted closedDraft o
@@ -81,7 +81,7 @@ module _ (s : Setup) (b : Book) (t : Target) (mem : List ℕ) (v : Follows s b t
   move-draft d o h = move-table _ mem _ _ o (v .plain) (v .breakpoints) h
 
   -- other processes, with the same pids
-  pub move-processes : (ps : List Process) (l : List ℕ) → pidsOf ps ≡ pidsOf (t .processes) → Halted (t .count) ps l
+  move-processes : (ps : List Process) (l : List ℕ) → pidsOf ps ≡ pidsOf (t .processes) → Halted (t .count) ps l
       → Follows s (withStopped b l) (withProcesses t ps) mem
   unfolding withStopped withProcesses
   move-processes ps l same h = record {
@@ -96,7 +96,7 @@ module _ (s : Setup) (b : Book) (t : Target) (mem : List ℕ) (v : Follows s b t
   }
 
   -- one process set
-  pub move-state : (i state wanted : ℕ) (l : List ℕ) → i < length (t .processes) → eqb state 8 ≡ among l (processAt (t .processes) i .pid)
+  move-state : (i state wanted : ℕ) (l : List ℕ) → i < length (t .processes) → eqb state 8 ≡ among l (processAt (t .processes) i .pid)
       → ((j : ℕ) → j < t .count → (j ≡ i → ⊥)
       → among l (processAt (t .processes) j .pid) ≡ among (b .stopped) (processAt (t .processes) j .pid))
       → Follows s (withStopped b l) (setState t i state wanted) mem
@@ -104,6 +104,26 @@ module _ (s : Setup) (b : Book) (t : Target) (mem : List ℕ) (v : Follows s b t
   move-state i state wanted l below now rest =
       move-processes _ l (pids-stored (t .processes) i state wanted)
       (halted-stored (t .count) (t .processes) (b .stopped) l i state wanted below now rest (v .stopped))
+
+  -- one listed process set, by its pid
+  module _ {head : Head} (good : Good head t mem) (pid : ℕ) (h : indexOf t pid < t .count) where
+    -- it is Stopped where the book has its pid
+    pub its-state : isStopped (processAt (t .processes) (indexOf t pid)) ≡ among (b .stopped) pid
+    its-state = v .stopped _ h ∙ ap (among (b .stopped)) (listed-pid t mem good pid h)
+
+    -- the book has it as it is now, and every other as before
+    pub move-named : (state wanted : ℕ) (l : List ℕ) → eqb state 8 ≡ among l pid
+        → ((y : ℕ) → (y ≡ pid → ⊥) → among l y ≡ among (b .stopped) y) → Follows s (withStopped b l) (setState t (indexOf t pid) state wanted) mem
+    move-named state wanted l now rest =
+        let q = listed-pid t mem good pid h in
+        move-state _ state wanted l (listed t mem good _ h) (now ∙ ap (among l) (sym q))
+        (λ j g n. rest _ (λ p. n (facts-of t mem good .pidsDiffer j _ g h (p ∙ sym q))))
+
+    -- it is Stopped as it was, and the book stays
+    pub move-kept : (state wanted : ℕ) → eqb state 8 ≡ isStopped (processAt (t .processes) (indexOf t pid))
+        → Follows s b (setState t (indexOf t pid) state wanted) mem
+    unfolding withStopped
+    move-kept state wanted e = move-named state wanted (b .stopped) (e ∙ its-state) (λ y n. refl)
 
   -- ---- the table and memory
 
