@@ -24,8 +24,9 @@ use Rattle.target.specs.declared.Entry.{Entry}
 use Rattle.target.specs.declared.Process.{Process}
 use Rattle.target.specs.declared.Target.{Target}
 use Rattle.rules.specs.Breakpoint.{sites, plains}
-use Rattle.rules.specs.Facts.{Differ, Used, UsedFacts, Facts, Good}
-use Rattle.rules.specs.Slots.{length-sites, site-at, site-used, site-free, length-plains, plain-byte}
+use Rattle.rules.specs.Facts.{Shaped, Differ, Used, UsedFacts, Facts, Good}
+use Rattle.rules.specs.Slots as slots
+use Rattle.rules.specs.Slots.{TwoEach, length-sites, length-plains, plain-byte}
 
 -- ---- keys that no two have, one before the other, are different
 
@@ -249,6 +250,10 @@ facts-of t mem g = fit-facts t mem (g .fit)
 pub fit-of : {head : Head} (t : Target) (mem : List ℕ) → Facts head t mem → fitOf head t mem ≡ true
 fit-of {head} t mem f = fit-by t mem (tests-by head t mem f)
 
+-- every entry of a shaped record has two plain bytes
+pub two-each : (t : Target) → Shaped t → TwoEach (t .table .entries)
+two-each t s k h = s .entry k (omega (arith, s .entries)) .plain
+
 -- ---- the slots of a good record
 
 module _ {head : Head} (t : Target) (mem : List ℕ) (g : Good head t mem) where
@@ -257,11 +262,11 @@ module _ {head : Head} (t : Target) (mem : List ℕ) (g : Good head t mem) where
 
   -- a used slot has its entry's site
   pub slot-used : (k : ℕ) → Used t k → getD (sites t) k 0 ≡ entryAt (t .table .entries) k .site - t .base
-  slot-used k u = site-at (t .base) (t .table .entries) k (omega (arith, u .0, g .shaped .entries)) ∙ site-used (t .base) _ (u .1)
+  slot-used k u = slots.slot-used (t .base) (t .table .entries) k (omega (arith, u .0, g .shaped .entries)) (u .1)
 
   -- a free one has none
   pub slot-free : (k : ℕ) → k < 8 → isFree (entryAt (t .table .entries) k) ≡ true → getD (sites t) k 0 ≡ noSite
-  slot-free k h u = site-at (t .base) (t .table .entries) k (omega (arith, g .shaped .entries)) ∙ site-free (t .base) _ u
+  slot-free k h u = slots.slot-free (t .base) (t .table .entries) k (omega (arith, g .shaped .entries)) u
 
   -- a used slot's site is even
   pub slot-even : (k : ℕ) → Used t k → getD (sites t) k 0 % 2 ≡ 0
@@ -286,16 +291,12 @@ module _ {head : Head} (t : Target) (mem : List ℕ) (g : Good head t mem) where
       let b = f .used k u in
       f .sitesDiffer j k (h, v) u (omega (arith, slot-used j (h, v), slot-used k u, a .low, b .low)))
 
-  -- every entry has two plain bytes
-  two-each : (k : ℕ) → k < length (t .table .entries) → length (entryAt (t .table .entries) k .plain) ≡ 2
-  two-each k h = g .shaped .entry k (omega (arith, g .shaped .entries)) .plain
-
   pub sixteen-plains : length (plains t) ≡ 16
-  sixteen-plains = omega (arith, length-plains (t .table .entries) two-each, g .shaped .entries)
+  sixteen-plains = omega (arith, length-plains (t .table .entries) (two-each t (g .shaped)), g .shaped .entries)
 
   -- a slot's plain bytes are its entry's
   pub slot-byte : (k r : ℕ) → k < 8 → r < 2 → getD (plains t) (k * 2 + r) 0 ≡ getD (entryAt (t .table .entries) k .plain) r 0
-  slot-byte k r h l = plain-byte (t .table .entries) two-each k r (omega (arith, g .shaped .entries)) l
+  slot-byte k r h l = plain-byte (t .table .entries) (two-each t (g .shaped)) k r (omega (arith, g .shaped .entries)) l
 
   -- real memory holds the trap at every site
   pub planted-of : Planted (trapBytes head) (sites t) mem

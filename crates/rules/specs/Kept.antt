@@ -21,7 +21,7 @@ use Rattle.rules.specs.Breakpoint.{sites}
 use Rattle.rules.specs.Condition.{dropped}
 use Rattle.rules.specs.Event.{restart}
 use Rattle.rules.specs.Step.{setupTarget, sized, Step, stepOf}
-use Rattle.rules.specs.Outcomes.{processOf, Left, Served, serving, failing, Heard, SetUp, taken, emptied, got, put, aside, current}
+use Rattle.rules.specs.Outcomes.{processNamed, Left, Served, serving, failing, Heard, SetUp, taken, emptied, got, put, aside, current}
 use Rattle.rules.specs.Outcomes.{told, noted, halted, marked, started, cleared, begins, plants, removes, adds, caught, released}
 use Rattle.rules.specs.Outcomes.{yielded, ran, became, set-up, regsOf, by-step}
 use Rattle.rules.specs.Book.{Setup, setupBy}
@@ -68,7 +68,7 @@ module _ {head : Head} (w : World) (g : GoodWorld head w) where
   good-heard (yielded {block = block} h) = good-stopped w g _ block h
   good-heard ran = g
   good-heard (became {pid = pid} h e n) =
-      good-state w g _ _ (processOf w pid .wanted) h (mark-kept _ _ _ e n (facts-of (w .target) (w .mem) g .marks _ h))
+      good-state w g _ _ (processNamed w pid .wanted) h (mark-kept _ _ _ e n (facts-of (w .target) (w .mem) g .marks _ h))
 
   -- a restart
   good-restarted : GoodWorld head (restart w .after)

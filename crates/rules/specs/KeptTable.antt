@@ -4,7 +4,7 @@ use mathlib.Core.Bool.{true, false}
 use mathlib.Core.List.{List, [], _∷_}
 use Prim.Native.Nat.{ℕ, _-_, _<_}
 use native.Mathlib.Omega.{arith}
-use lib.ListN.{length, set, length-set, length-take, length-drop, getD-replicate}
+use lib.ListN.{length, set, replicate, length-set, length-take, length-drop, getD-replicate}
 use Rattle.common.proofs.Same.{true-or-false}
 use Rattle.fit.specs.Arrays.{siteOf, sitesOf}
 use Rattle.fit.specs.Fit.{entryAt, draftFit}
@@ -12,6 +12,7 @@ use Rattle.memory.specs.Head.{Head, trapBytes}
 use Rattle.memory.specs.Overlay.{noSite, laidOver}
 use Rattle.memory.specs.Write.{memAfter, plainAfter}
 use Rattle.memory.proofs.Site.{no-site-free}
+use Rattle.memory.proofs.Slots.{free-slots}
 use Rattle.memory.proofs.Bytes.{length-laid, length-mem-after, length-plain-after}
 use Rattle.memory_laws.specs.Laws.{planted-written, no-traps-planted}
 use Rattle.memory_laws.specs.Planting.{planted-more, removed-planted}
@@ -24,9 +25,9 @@ use Rattle.rules.specs.Breakpoint.{sites, plains}
 use Rattle.rules.specs.Facts.{ShapedEntry, Used, Good}
 use Rattle.rules.specs.Record.{withTable, withDraft, withEntries}
 use Rattle.rules.specs.Request.{withPlains}
-use Rattle.rules.specs.Slots.{length-sites, site-at, site-used, site-free, sites-set, length-with, with-at, sites-with}
+use Rattle.rules.specs.Slots.{site-used, sites-set, length-with, with-at, sites-with}
 use Rattle.rules.specs.FitFacts.{eight-sites, slot-used, slot-free, slot-only, sixteen-plains}
-use Rattle.rules.specs.Rows.{Row, stored-at, rows-set, rows-with, fresh-free, rows-fresh}
+use Rattle.rules.specs.Rows.{Row, stored-at, rows-set, rows-with, rows-fresh}
 use Rattle.rules.specs.Parts.{TableParts, parts-of, good-table}
 use Rattle.rules.specs.KeptDraft.{closed-fit, freed-fit, with-fit}
 
@@ -37,6 +38,7 @@ fresh-shaped = record { plain = refl; elements = refl; id = omega arith }
 -- ---- a fresh table, over any memory
 
 pub fresh-parts : {head : Head} (base n : ℕ) (mem : List ℕ) → length mem ≡ n → TableParts head base n freshTable mem
+unfolding sitesOf siteOf isFree
 fresh-parts {head} base n mem size = record {
   eight = refl;
   entry = λ k h. rw (getD-replicate 8 k freshEntry noEntry h) fresh-shaped;
@@ -44,10 +46,7 @@ fresh-parts {head} base n mem size = record {
   draftId = omega arith;
   draft = closed-fit (freshTable .entries);
   rows = rows-fresh base n;
-  planted = no-traps-planted (trapBytes head) (sitesOf base (freshTable .entries)) mem
-      (λ j h i q.
-      let l : j < 8 = omega (arith, length-sites base (freshTable .entries)) in
-      no-site-free 2 (omega arith) i (q ∙ site-at base (freshTable .entries) j l ∙ site-free base _ (fresh-free j l)));
+  planted = no-traps-planted (trapBytes head) (replicate 8 noSite) mem (free-slots 2 (omega arith) 8);
   sized = size;
 }
 

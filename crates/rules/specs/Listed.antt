@@ -6,7 +6,7 @@ use mathlib.Core.Logic.{_⊎_, ⊎-elim}
 use Prim.Native.Nat.{ℕ, zero, suc, _<_}
 use native.Mathlib.Nat.{not-suc-le-zero, le-of-suc-le-suc}
 use native.Mathlib.Omega.{arith}
-use lib.ListN.{length, getD, set, replicate, getD-replicate}
+use lib.ListN.{length, getD, set, replicate}
 use lib.Seq.{getD-set-same, getD-set-other}
 use Rattle.common.proofs.Same.{true-or-false}
 use Rattle.fit.specs.Fit.{entryAt}
@@ -18,7 +18,7 @@ use Rattle.target.specs.declared.Entry.{Entry}
 use Rattle.rules.specs.Request.{withPlains}
 use Rattle.rules.specs.Book.{Breakpoint, without}
 use Rattle.rules.specs.Facts.{UsedIn}
-use Rattle.rules.specs.Rows.{with-same}
+use Rattle.rules.specs.Rows.{with-same, fresh-free}
 use Rattle.rules.specs.Agree.{dressed, Held, Listed}
 
 -- ---- membership
@@ -74,9 +74,8 @@ held-still es es′ x h o = record { place = h .place; used = (h .used .0, ap is
 -- ---- a fresh table has none, and no more has the book
 
 pub listed-fresh : Listed (replicate 8 freshEntry) []
-unfolding isFree
 listed-fresh = record {
-  into = λ k u. free-not freshEntry refl (sym (ap isFree (getD-replicate 8 k freshEntry noEntry (u .0))) ∙ u .1);
+  into = λ k u. free-not _ (fresh-free k (u .0)) (u .1);
   from = λ x m. absurd (List·Memᴰ·not-nil m);
 }
 

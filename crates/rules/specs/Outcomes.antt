@@ -81,8 +81,8 @@ bufferOf (restartStep regs reply) = reply
 abbrev pub Known : World → ℕ → Type 0
 Known w pid = indexOf (w .target) pid < w .target .count
 
-abbrev pub processOf : World → ℕ → Process
-processOf w pid = processAt (w .target .processes) (indexOf (w .target) pid)
+abbrev pub processNamed : World → ℕ → Process
+processNamed w pid = processAt (w .target .processes) (indexOf (w .target) pid)
 
 -- ---- an accepted request: its reply and the world that it leaves, with what the tests told
 
@@ -97,17 +97,17 @@ pub data Left (head : Head) (w : World) : Parsed → Message → World → Type 
   aside : {addr n : ℕ} {d : Data4} (regs : List ℕ) → (0 < n → placeOf (w .target .base) (w .target .size) addr n ≡ Window → ⊥)
       → Left head w (Request (Tmput addr n d)) Rmput (world (w .target) (w .mem) regs)
   current : {pid : ℕ} → Known w pid
-      → Left head w (Request (Tproc pid)) (Rproc (processOf w pid .address)) (withTarget w (withCurrent (w .target) 1 pid))
+      → Left head w (Request (Tproc pid)) (Rproc (processNamed w pid .address)) (withTarget w (withCurrent (w .target) 1 pid))
   told : {pid : ℕ} (state : ℕ) → Left head w (Request (Tstatus pid)) (Rstatus state) w
   noted : {pid : ℕ} → Left head w (Request (Trnote pid)) Rrnote w
   halted : {pid : ℕ} → Left head w (Request (Tstop pid)) Rstop w
-  marked : {pid : ℕ} → Known w pid → isStopped (processOf w pid) ≡ false
-      → Left head w (Request (Tstop pid)) Rstop (withTarget w (setState (w .target) (indexOf (w .target) pid) (processOf w pid .state) 1))
-  started : {pid : ℕ} → Known w pid → isStopped (processOf w pid) ≡ true
+  marked : {pid : ℕ} → Known w pid → isStopped (processNamed w pid) ≡ false
+      → Left head w (Request (Tstop pid)) Rstop (withTarget w (setState (w .target) (indexOf (w .target) pid) (processNamed w pid .state) 1))
+  started : {pid : ℕ} → Known w pid → isStopped (processNamed w pid) ≡ true
       → Left head w (Request (Tstart pid)) Rstart
       (removedAt (withTarget w (setState (w .target) (indexOf (w .target) pid) ready 0)) (pcOf (blockAt (w .regs) (indexOf (w .target) pid))))
-  cleared : {pid : ℕ} → Known w pid → isStopped (processOf w pid) ≡ false
-      → Left head w (Request (Tstart pid)) Rstart (withTarget w (setState (w .target) (indexOf (w .target) pid) (processOf w pid .state) 0))
+  cleared : {pid : ℕ} → Known w pid → isStopped (processNamed w pid) ≡ false
+      → Left head w (Request (Tstart pid)) Rstart (withTarget w (setState (w .target) (indexOf (w .target) pid) (processNamed w pid .state) 0))
   begins : {val op : ℕ} → eqb op (code "n") ≡ true
       → ltb 255 val ≡ false → ltb (entryOf (w .target .table .entries) val) (length (w .target .table .entries)) ≡ false
       → leb (length (w .target .table .entries)) (firstFree (w .target .table .entries)) ≡ false
@@ -147,9 +147,9 @@ pub data Heard (head : Head) (w : World) : Step → Answer → World → Type 0 
   yielded : {regs block : List ℕ} {pid : ℕ} → Known w pid
       → Heard head w (scheduleEvent regs pid block) Yes (stopWith w (indexOf (w .target) pid) block)
   ran : {regs block : List ℕ} {pid : ℕ} → Heard head w (scheduleEvent regs pid block) No w
-  became : {regs : List ℕ} {pid value : ℕ} → Known w pid → isStopped (processOf w pid) ≡ false → eqb value stopped ≡ false
+  became : {regs : List ℕ} {pid value : ℕ} → Known w pid → isStopped (processNamed w pid) ≡ false → eqb value stopped ≡ false
       → Heard head w (stateEvent regs pid value) Nothing
-      (withTarget w (setState (w .target) (indexOf (w .target) pid) value (processOf w pid .wanted)))
+      (withTarget w (setState (w .target) (indexOf (w .target) pid) value (processNamed w pid .wanted)))
 
 pub data Told (head : Head) (w : World) (e : Step) : Outcome → Type 0 where
   telling : (a : Answer) (v : World) → Heard head w e a v → Told head w e (answered a v)
@@ -187,11 +187,11 @@ module _ (head : Head) (w : World) where
   on-block {Q} f h =
       let t = w .target in
       choose (Served w false Q) (eqb (t .selected) 0) (λ e. failing Pid)
-      (λ e. choose (Served w false Q) (isStopped (processOf w (t .current))) (λ g. h (indexOf t (t .current))) (λ g. failing Notstop))
+      (λ e. choose (Served w false Q) (isStopped (processNamed w (t .current))) (λ g. h (indexOf t (t .current))) (λ g. failing Notstop))
 
   -- a request names its process
   on-process : {Q : Message → World → Type 0} (pid : ℕ) (f : ℕ → Process → Outcome)
-      → (Known w pid → Served w false Q (f (indexOf (w .target) pid) (processOf w pid))) → Served w false Q (onProcess w pid f)
+      → (Known w pid → Served w false Q (f (indexOf (w .target) pid) (processNamed w pid))) → Served w false Q (onProcess w pid f)
   unfolding onProcess
   on-process {Q} pid f h =
       choose (Served w false Q) (ltb (indexOf (w .target) pid) (w .target .count)) (λ e. h (ltb-true _ _ e)) (λ e. failing Pid)
@@ -245,13 +245,13 @@ module _ (head : Head) (w : World) where
   unfolding stop isMessage typeOf
   stop-of pid =
       on-process pid _ (λ h. serving Rstop _ refl refl
-      (choose (Left head w (Request (Tstop pid)) Rstop) (isStopped (processOf w pid)) (λ e. halted) (λ e. marked h e)))
+      (choose (Left head w (Request (Tstop pid)) Rstop) (isStopped (processNamed w pid)) (λ e. halted) (λ e. marked h e)))
 
   start-of : (pid : ℕ) → Served w false (Left head w (Request (Tstart pid))) (start w pid)
   unfolding start isMessage typeOf
   start-of pid =
       on-process pid _ (λ h. serving Rstart _ refl refl
-      (choose (Left head w (Request (Tstart pid)) Rstart) (isStopped (processOf w pid)) (λ e. started h e) (λ e. cleared h e)))
+      (choose (Left head w (Request (Tstart pid)) Rstart) (isStopped (processNamed w pid)) (λ e. started h e) (λ e. cleared h e)))
 
   -- ---- Tcondbreak, letter by letter: a refused n, b or element drops the condition in hand, a refused d does not
 
@@ -404,7 +404,7 @@ module _ (head : Head) (w : World) where
 
   -- an event names its process
   on-listed : (e : Step) (pid : ℕ) (f : ℕ → Process → Outcome)
-      → (Known w pid → Comes head w [] (Told head w e) (f (indexOf (w .target) pid) (processOf w pid)))
+      → (Known w pid → Comes head w [] (Told head w e) (f (indexOf (w .target) pid) (processNamed w pid)))
       → Comes head w [] (Told head w e) (onListed w pid f)
   unfolding onListed
   on-listed e pid f h =
@@ -416,7 +416,7 @@ module _ (head : Head) (w : World) where
   came-trap regs pid block =
       let P = Comes head w [] (Told head w (trapEvent regs pid block)) in
       on-checks _ (eqb (length block) 136) [] _
-      (λ z. on-listed _ pid _ (λ h. choose P (isStopped (processOf w pid)) (λ e. stayed 5 refl (λ k z. omega arith))
+      (λ z. on-listed _ pid _ (λ h. choose P (isStopped (processNamed w pid)) (λ e. stayed 5 refl (λ k z. omega arith))
       (λ e. choose P (ltb (hitAt w block) (length (w .target .table .entries)))
       (λ f. choose P (holds head w pid (hit w block))
       (λ g. went (telling _ _ (caught h (ltb-true _ _ f) g))) (λ g. went (telling _ _ (released (ltb-true _ _ f) g))))
@@ -427,7 +427,7 @@ module _ (head : Head) (w : World) where
   unfolding scheduleOf schedule
   came-schedule regs pid block =
       on-checks _ (eqb (length block) 136) [] _
-      (λ z. on-listed _ pid _ (λ h. choose (Comes head w [] (Told head w (scheduleEvent regs pid block))) (eqb (processOf w pid .wanted) 0)
+      (λ z. on-listed _ pid _ (λ h. choose (Comes head w [] (Told head w (scheduleEvent regs pid block))) (eqb (processNamed w pid .wanted) 0)
       (λ e. went (telling _ _ ran)) (λ e. went (telling _ _ (yielded h)))))
 
   pub came-state : (regs : List ℕ) (pid value : ℕ)
@@ -436,9 +436,9 @@ module _ (head : Head) (w : World) where
   came-state regs pid value =
       on-checks _ true [] _
       (λ z. on-listed _ pid _ (λ h.
-      choose (Comes head w [] (Told head w (stateEvent regs pid value))) (isStopped (processOf w pid) || eqb value stopped)
+      choose (Comes head w [] (Told head w (stateEvent regs pid value))) (isStopped (processNamed w pid) || eqb value stopped)
       (λ e. stayed 5 refl (λ k z. omega arith))
-      (λ e. let n = neither (isStopped (processOf w pid)) (eqb value stopped) e in went (telling _ _ (became h (n .0) (n .1))))))
+      (λ e. let n = neither (isStopped (processNamed w pid)) (eqb value stopped) e in went (telling _ _ (became h (n .0) (n .1))))))
 
 -- ---- every step: what holds of a refusal by its number, of a request, of an event and of a restart holds of each
 

@@ -18,7 +18,7 @@ use Rattle.target.specs.declared.Target.{Target}
 use Rattle.rules.specs.Breakpoint.{sites}
 use Rattle.rules.specs.Facts.{ShapedEntry, Used, UsedFacts, Good}
 use Rattle.rules.specs.Record.{withTable, withProcesses, withCurrent}
-use Rattle.rules.specs.Slots.{length-sites, site-at, site-used}
+use Rattle.rules.specs.Slots.{length-sites, slot-used}
 use Rattle.rules.specs.FitFacts.{tests-of, facts-by, entries-fit, fit-by, planted-of}
 use Rattle.rules.specs.Rows.{Rows}
 
@@ -82,7 +82,7 @@ module _ {head : Head} (t : Target) (mem : List ℕ) where
         let s = entryAt (t .table .entries) k .site - t .base in
         let b : t .base % 4 ≡ 0 = search parts depth 8 in
         let l : k < length (t .table .entries) = omega (arith, c .table .eight) in
-        let at : getD (sites t) k 0 ≡ s = site-at (t .base) (t .table .entries) k l ∙ site-used (t .base) _ u in
+        let at : getD (sites t) k 0 ≡ s = slot-used (t .base) (t .table .entries) k l u in
         let d : k < length (sites t) = omega (arith, length-sites (t .base) (t .table .entries)) in
         let z : s % 2 ≡ 0 = omega (arith, x .even, x .low) in
         let o : (s + 1) % 2 ≡ 1 = omega arith in

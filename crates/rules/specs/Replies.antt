@@ -7,9 +7,10 @@ use Prim.Native.Nat.{ℕ}
 use borrow.Author.Tests.{eqb-false, eq-eqb}
 use lib.Dec.{eqb}
 use lib.ListN.{length}
+use Rattle.common.proofs.Cases.{on-test}
+use Rattle.common.proofs.Same.{and-left, and-right}
 use Rattle.fit.specs.Fit.{fitOf}
 use Rattle.memory.specs.Head.{Head}
-use Rattle.request.specs.Request.{parseOf}
 use Rattle.target.specs.declared.Target.{Target}
 use Rattle.wire.specs.Message.{isMessage, typeOf, bytesOf}
 use Rattle.wire.specs.declared.Message.{Message}
@@ -17,9 +18,10 @@ use Rattle.wire.specs.declared.Message.the-variants.{Rerr}
 use Rattle.text.specs.declared.Reason.{Reason}
 use Rattle.text.specs.declared.Reason.the-variants.{Reset}
 use Rattle.wire_laws.specs.Messages.{ten-bytes}
+use Rattle.rules.specs.declared.Answer.the-variants.{Nothing}
 use Rattle.rules.specs.Outcome.{World, Outcome, replied, error, refused, answered}
 use Rattle.rules.specs.Condition.{dropped}
-use Rattle.rules.specs.Request.{drops, requestBy}
+use Rattle.rules.specs.Request.{drops}
 use Rattle.rules.specs.Event.{restart}
 use Rattle.rules.specs.Step.{sized, checked, requestOf, trapOf, scheduleOf, stateOf, restartOf}
 use Rattle.rules.specs.Step.{Step, request, trapEvent, scheduleEvent, stateEvent, restartStep, stepOf}
@@ -117,22 +119,37 @@ replies head t mem (scheduleEvent regs pid block) e = let-pass Answered (schedul
 replies head t mem (stateEvent regs pid value) e = let-pass Answered (state-checked head _ pid value) e
 replies head t mem (restartStep regs reply) e = let-pass Reply (restart-checked head _ reply) e
 
+-- a request and a restart have no answer, whatever their number
+served-quiet : {w : World} {d : Bool} {Q : Message → World → Type 0} {o : Outcome} → Served w d Q o → o .answer ≡ Nothing
+unfolding replied error
+served-quiet (serving m v h g q) = refl
+served-quiet (failing r) = refl
+
+came-quiet : {head : Head} {w : World} {reply : List ℕ} {P : Outcome → Type 0} {o : Outcome}
+    → (P o → o .answer ≡ Nothing) → Comes head w reply P o → o .answer ≡ Nothing
+unfolding refused
+came-quiet f (stayed n h g) = refl
+came-quiet f (went p) = f p
+
+pub request-quiet : (head : Head) (w : World) (bytes reply : List ℕ) → requestOf head w bytes reply .answer ≡ Nothing
+request-quiet head w bytes reply = came-quiet served-quiet (came-request head w bytes reply)
+
+pub restart-quiet : (head : Head) (w : World) (reply : List ℕ) → restartOf head w reply .answer ≡ Nothing
+unfolding restart replied
+restart-quiet head w reply = came-quiet (λ e. rw e) (came-restart head w reply)
+
 -- the number of every request: 2 and 3 come first, then there is only 0
 module _ (head : Head) (w : World) (bytes reply : List ℕ) where
   pub request-number :
       requestOf head w bytes reply .number
       ≡ cond (sized w && (eqb (length bytes) 10 && eqb (length reply) 10)) (cond (fitOf head (w .target) (w .mem)) 0 3) 2
   unfolding requestOf checked refused
-  request-number = go (sized w) (eqb (length bytes) 10) refl (eqb (length reply) 10) (fitOf head (w .target) (w .mem))
-    where
-      go : (s b : Bool) → eqb (length bytes) 10 ≡ b → (r f : Bool)
-          → (cond (s && (b && r)) (cond f (requestBy head (parseOf bytes) w bytes reply) (refused 3 w reply)) (refused 2 w reply)) .number
-          ≡ cond (s && (b && r)) (cond f 0 3) 2
-      go false b e r f = refl
-      go true false e r f = refl
-      go true true e false f = refl
-      go true true e true false = refl
-      go true true e true true = served-reply (handled-of (request-of head w bytes reply e)) .number
+  request-number =
+      on-test (sized w && (eqb (length bytes) 10 && eqb (length reply) 10))
+      (λ e. let ten : eqb (length bytes) 10 ≡ true = search (and-left, and-right) in
+      rw e (on-test (fitOf head (w .target) (w .mem))
+      (λ f. rw f (served-reply (handled-of (request-of head w bytes reply ten)) .number)) (λ f. rw f)))
+      (λ e. rw e)
 
   -- "A request that passes 2 and 3 always gets number 0"
   pub request-passes :

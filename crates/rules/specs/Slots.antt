@@ -48,6 +48,14 @@ module _ (base : ℕ) (es : List Entry) where
   unfolding sitesOf
   site-at k h = map-at (siteOf base) es noEntry 0 k h
 
+  -- a used slot has its entry's site, a free one has none
+  module _ (k : ℕ) (h : k < length es) where
+    pub slot-used : isFree (entryAt es k) ≡ false → getD (sitesOf base es) k 0 ≡ entryAt es k .site - base
+    slot-used u = site-at k h ∙ site-used base _ u
+
+    pub slot-free : isFree (entryAt es k) ≡ true → getD (sitesOf base es) k 0 ≡ noSite
+    slot-free u = site-at k h ∙ site-free base _ u
+
   pub sites-set : (k : ℕ) (e : Entry) → sitesOf base (set es k e) ≡ set (sitesOf base es) k (siteOf base e)
   unfolding sitesOf
   sites-set k e = map-set (siteOf base) es k e
