@@ -4,9 +4,9 @@ use mathlib.Core.Bool.{true, false}
 use mathlib.Core.List.{List}
 use Prim.Native.Nat.{ℕ, _+_, _-_, _≤_, _<_}
 use native.Mathlib.Omega.{arith}
-use borrow.Author.Tests.{ltb-true, ltb-false, not-true}
+use borrow.Author.Tests.{ltb-true, not-true}
 use lib.Dec.{leb, ltb, eqb}
-use lib.ListN.{length, length-set}
+use lib.ListN.{length}
 use Rattle.common.proofs.Cases.{choose}
 use Rattle.common.proofs.Same.{parts}
 use Rattle.condition.specs.Depth.{wellFormed}
@@ -25,7 +25,7 @@ use Rattle.rules.specs.Facts.{Used, Good}
 use Rattle.rules.specs.Found.{free-found, used-at, at-first, id-first}
 use Rattle.rules.specs.Parts.{parts-of, good-processes}
 use Rattle.rules.specs.KeptProcesses.{mark-none, state-parts}
-use Rattle.rules.specs.KeptDraft.{closed-fit, hand-of, begun-fit, joined-fit}
+use Rattle.rules.specs.KeptDraft.{closed-draft, hand-of, begun-draft, joined-draft}
 use Rattle.rules.specs.KeptTable.{good-draft, good-made, good-freed, good-written}
 
 -- the record is good with its memory
@@ -38,28 +38,25 @@ module _ {head : Head} (w : World) (g : GoodWorld head w) where
   -- it is dropped
   pub good-dropped : GoodWorld head (dropped w)
   unfolding dropped
-  good-dropped = good-draft (w .target) (w .mem) g _ refl (omega arith) (closed-fit _)
+  good-dropped = good-draft (w .target) (w .mem) g _ (closed-draft _)
 
   -- one is begun, with an id that is free, where an entry is
   pub good-begun : (val : ℕ) → ltb 255 val ≡ false
       → ltb (entryOf (w .target .table .entries) val) (length (w .target .table .entries)) ≡ false
       → leb (length (w .target .table .entries)) (firstFree (w .target .table .entries)) ≡ false
       → Good head (withDraft (w .target) (begun val)) (w .mem)
-  unfolding begun
   good-begun val small new room =
-      good-draft (w .target) (w .mem) g (begun val) refl (omega (arith, ltb-false 255 val small))
-      (begun-fit (w .target .table .entries) (g .shaped .entries) val new room)
+      good-draft (w .target) (w .mem) g (begun val) (begun-draft (w .target .table .entries) (g .shaped .entries) val small new room)
 
   -- an element that fits joins it
   pub good-joined : (e : Element) → inHand w ≡ true → roomFor (w .target .table .draft) e ≡ Fits
       → Good head (withDraft (w .target) (withElement (w .target .table .draft) e)) (w .mem)
-  unfolding inHand withElement
+  unfolding inHand
   good-joined e hand room =
       let d = w .target .table .draft in
-      let s = g .shaped in
-      good-draft (w .target) (w .mem) g (withElement d e) (simp length-set (s .draftElements)) (s .draftId)
-      (joined-fit (w .target .table .entries) (s .entries) d (parts-of (w .target) (w .mem) g .table .draft) e (s .draftElements)
-      (not-true (eqb (d .active) 0) hand) room)
+      let o = parts-of (w .target) (w .mem) g .table in
+      good-draft (w .target) (w .mem) g (withElement d e)
+      (joined-draft (w .target .table .entries) (o .eight) d (o .draft) e (not-true (eqb (d .active) 0) hand) room)
 
   -- ---- processes
 
@@ -96,7 +93,7 @@ module _ {head : Head} (w : World) (g : GoodWorld head w) where
   good-planted site hand free formed =
       let es = w .target .table .entries in
       let d = w .target .table .draft in
-      let o = hand-of d es (parts-of (w .target) (w .mem) g .table .draft) (not-true (eqb (d .active) 0) hand) in
+      let o = hand-of d es (parts-of (w .target) (w .mem) g .table .draft .fit) (not-true (eqb (d .active) 0) hand) in
       let none : length es ≤ breakpointAt es site = search parts in
       let eight = g .shaped .entries in
       let fits : site + 2 ≤ w .target .base + w .target .size = search parts in
