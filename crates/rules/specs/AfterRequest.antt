@@ -19,12 +19,11 @@ use Rattle.wire.specs.Message.{bytes4, bytesOf, typeOf}
 use Rattle.wire.specs.declared.Data4.{Data4}
 use Rattle.wire.specs.declared.Message.{Message}
 use Rattle.rules.specs.Outcome.{World, world, Outcome, replied, error}
-use Rattle.rules.specs.Record.{withDraft as withHand, ready, indexOf, setState, isStopped}
-use Rattle.rules.specs.Record.{blockAt, pcOf}
+use Rattle.rules.specs.Record.{withDraft as withHand, ready, indexOf, setState, isStopped, blockAt, pcOf}
 use Rattle.rules.specs.Breakpoint.{breakpointAt, planted, removed, removedAt}
 use Rattle.rules.specs.Request.{windowWritten}
-use Rattle.rules.specs.Book.{Book, Setup, withBreakpoints, withStopped, without, others, intoWindow, inWindow, bookWrite}
-use Rattle.rules.specs.Book.{bookStart, bookServed, bookRequest, isAccepted, Pending, withDraft, joins, sets, bookCondbreak}
+use Rattle.rules.specs.Book.{Book, Setup, withBreakpoints, withStopped, without, others, intoWindow, inWindow, bookWrite, bookStart}
+use Rattle.rules.specs.Book.{bookServed, bookRequest, isAccepted, Pending, withDraft, joins, sets, bookCondbreak}
 use Rattle.rules.specs.FitFacts.{facts-of}
 use Rattle.rules.specs.Agree.{dressed, Follows, Agree, pendingOf, Drafted}
 use Rattle.rules.specs.Laid.{same-place, in-window}
@@ -32,7 +31,8 @@ use Rattle.rules.specs.Halted.{pid-place, among-others, among-gone}
 use Rattle.rules.specs.Found.{used-at, at-site, at-first, used-id, id-is}
 use Rattle.rules.specs.KeptProcesses.{mark-none}
 use Rattle.rules.specs.KeptWorld.{good-state}
-use Rattle.rules.specs.Moves.{move-current, its-state, move-named, move-kept, move-removed, move-none, move-written, drafted-none, move-draft, move-planted}
+use Rattle.rules.specs.Moves.{move-current, its-state, move-named, move-kept, move-removed, move-none, move-written, drafted-none}
+use Rattle.rules.specs.Moves.{move-draft, move-planted}
 use mathlib.Core.Option.{Option, none, some}
 use native.Mathlib.Numerals.{add-one}
 use lib.Seq.{take-suc-set}

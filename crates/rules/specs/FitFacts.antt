@@ -11,6 +11,7 @@ use Rattle.common.specs.Every.{every}
 use Rattle.common.proofs.Every.{every-at, every-all}
 pub use Rattle.common.proofs.Same.{parts}
 use Rattle.common.proofs.Same.{and-left, and-right}
+use Rattle.common.proofs.Tab.{pair-at}
 use Rattle.fit.specs.Fit.{fitOf, windowFit, processAt, pidFit, processesFit, entryAt, apart, siteFit, entryFit, slotFit, entriesFit}
 use Rattle.fit.specs.Fit.{marksFit, currentFit, draftFit}
 use Rattle.memory.specs.Head.{Head, trapBytes}
@@ -304,9 +305,7 @@ module _ {head : Head} (t : Target) (mem : List ℕ) (g : Good head t mem) where
     where
       half : (i s : ℕ) → s + i % 2 ≡ i → getD mem s 0 ≡ head .first → getD mem (s + 1) 0 ≡ head .second
           → getD mem i 0 ≡ getD (trapBytes head) (i % 2) 0
-      half i s p a b = on-same (i % 2) 0
-          (λ z. rw z (ap (λ (n : ℕ). getD mem n 0) (omega arith) ∙ a))
-          (λ n. let o : i % 2 ≡ 1 = omega arith in rw o (ap (λ (n : ℕ). getD mem n 0) (omega arith) ∙ b))
+      half i s p a b = sym (pair-at (λ j. getD mem j 0) s 0 (i % 2) (omega arith) ∙ ap (λ (n : ℕ). getD mem n 0) p) ∙ rw (a, b)
 
       byte : (i : ℕ) → i < length mem → covered 2 (sites t) i ≡ true → getD mem i 0 ≡ getD (trapBytes head) (i % 2) 0
       byte i h e =

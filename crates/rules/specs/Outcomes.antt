@@ -87,15 +87,18 @@ processNamed w pid = processAt (w .target .processes) (indexOf (w .target) pid)
 -- ---- an accepted request: its reply and the world that it leaves, with what the tests told
 
 pub data Left (head : Head) (w : World) : Parsed → Message → World → Type 0 where
+  -- bytes read: of the window the plain ones
   got : {addr n : ℕ} (d : Data9)
       → (0 < n → placeOf (w .target .base) (w .target .size) addr n ≡ Window
       → d ≡ data9Of (readOf 2 (sites (w .target)) (plains (w .target)) (w .mem) (addr - w .target .base) n 9))
       → Left head w (Request (Tmget addr n)) (Rmget d) w
+  -- written to the window
   put : {addr n : ℕ} {d : Data4} → 0 < n → placeOf (w .target .base) (w .target .size) addr n ≡ Window
       → Left head w (Request (Tmput addr n d)) Rmput (windowWritten w addr (take n (bytes4 d)))
-  -- into the register area, or nowhere
+  -- written to the register area, or no bytes at all
   aside : {addr n : ℕ} {d : Data4} (regs : List ℕ) → (0 < n → placeOf (w .target .base) (w .target .size) addr n ≡ Window → ⊥)
       → Left head w (Request (Tmput addr n d)) Rmput (world (w .target) (w .mem) regs)
+  -- the five requests with a pid: made current, told, noted; already Stopped, or marked; started, or its mark cleared
   current : {pid : ℕ} → Known w pid
       → Left head w (Request (Tproc pid)) (Rproc (processNamed w pid .address)) (withTarget w (withCurrent (w .target) 1 pid))
   told : {pid : ℕ} (state : ℕ) → Left head w (Request (Tstatus pid)) (Rstatus state) w
@@ -108,6 +111,7 @@ pub data Left (head : Head) (w : World) : Parsed → Message → World → Type 
       (removedAt (withTarget w (setState (w .target) (indexOf (w .target) pid) ready 0)) (pcOf (blockAt (w .regs) (indexOf (w .target) pid))))
   cleared : {pid : ℕ} → Known w pid → isStopped (processNamed w pid) ≡ false
       → Left head w (Request (Tstart pid)) Rstart (withTarget w (setState (w .target) (indexOf (w .target) pid) (processNamed w pid .state) 0))
+  -- Tcondbreak: n, b, d and an element
   begins : {val op : ℕ} → eqb op (code "n") ≡ true
       → ltb 255 val ≡ false → ltb (entryOf (w .target .table .entries) val) (length (w .target .table .entries)) ≡ false
       → leb (length (w .target .table .entries)) (firstFree (w .target .table .entries)) ≡ false
@@ -139,14 +143,17 @@ abbrev pub hit : World → List ℕ → Entry
 hit w block = entryAt (w .target .table .entries) (hitAt w block)
 
 pub data Heard (head : Head) (w : World) : Step → Answer → World → Type 0 where
+  -- a trap where the condition holds, and where it fails
   caught : {regs block : List ℕ} {pid : ℕ} → Known w pid → hitAt w block < length (w .target .table .entries)
       → holds head w pid (hit w block) ≡ true
       → Heard head w (trapEvent regs pid block) (Stop (hit w block .id)) (stopWith w (indexOf (w .target) pid) block)
   released : {regs block : List ℕ} {pid : ℕ} → hitAt w block < length (w .target .table .entries) → holds head w pid (hit w block) ≡ false
       → Heard head w (trapEvent regs pid block) (Pass (getD (hit w block .plain) 0 0) (getD (hit w block .plain) 1 0)) w
+  -- a schedule where a stop is wanted, and where none is
   yielded : {regs block : List ℕ} {pid : ℕ} → Known w pid
       → Heard head w (scheduleEvent regs pid block) Yes (stopWith w (indexOf (w .target) pid) block)
   ran : {regs block : List ℕ} {pid : ℕ} → Heard head w (scheduleEvent regs pid block) No w
+  -- a state set
   became : {regs : List ℕ} {pid value : ℕ} → Known w pid → isStopped (processNamed w pid) ≡ false → eqb value stopped ≡ false
       → Heard head w (stateEvent regs pid value) Nothing
       (withTarget w (setState (w .target) (indexOf (w .target) pid) value (processNamed w pid .wanted)))
