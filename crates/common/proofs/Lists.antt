@@ -24,6 +24,12 @@ take-map f zero l = refl
 take-map f (suc n) [] = refl
 take-map {B = B} f (suc n) (x ∷ xs) = ap (λ (l : List B). f x ∷ l) (take-map f n xs)
 
+-- one element stored, before a function or behind it
+pub map-set : {A B : Type 0} (f : A → B) (l : List A) (k : ℕ) (y : A) → map f (set l k y) ≡ set (map f l) k (f y)
+map-set f [] k y = refl
+map-set f (x ∷ xs) zero y = refl
+map-set {B = B} f (x ∷ xs) (suc k) y = ap (λ (l : List B). f x ∷ l) (map-set f xs k y)
+
 -- one element stored, in the list: what holds of it and of the others holds of each
 pub at-set : {A : Type 0} (l : List A) (k : ℕ) (y d : A) (j : ℕ) → (j ≡ k → k < length l) → (P : A → Type 0)
     → (j ≡ k → P y) → ((j ≡ k → ⊥) → P (getD l j d)) → P (getD (set l k y) j d)

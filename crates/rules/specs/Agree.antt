@@ -18,8 +18,7 @@ use Rattle.target.specs.declared.Target.{Target}
 use Rattle.rules.specs.Record.{isStopped}
 use Rattle.rules.specs.Breakpoint.{sites, plains}
 use Rattle.rules.specs.Book.{Breakpoint, Pending, Book, Setup}
-use Rattle.rules.specs.Facts.{Good}
-use Rattle.rules.specs.Rows.{UsedIn}
+use Rattle.rules.specs.Facts.{UsedIn, Good}
 
 -- ---- breakpoints
 

@@ -27,8 +27,16 @@ pub record Shaped (t : Target) : Type 0 where
 
 -- ---- a used entry
 
+-- entry k of a table is used
+abbrev pub UsedIn : List Entry → ℕ → Type 0
+UsedIn es k = (k < 8) × (isFree (entryAt es k) ≡ false)
+
+-- used entries have keys of their own
+abbrev pub Differ : (Entry → ℕ) → List Entry → Type 0
+Differ key es = (j k : ℕ) → UsedIn es j → UsedIn es k → key (entryAt es j) ≡ key (entryAt es k) → j ≡ k
+
 abbrev pub Used : Target → ℕ → Type 0
-Used t k = (k < 8) × (isFree (entryAt (t .table .entries) k) ≡ false)
+Used t k = UsedIn (t .table .entries) k
 
 pub record UsedFacts (h : Head) (t : Target) (mem : List ℕ) (e : Entry) : Type 0 where
   pub one : e .used ≡ 1
@@ -54,10 +62,8 @@ pub record Facts (h : Head) (t : Target) (mem : List ℕ) : Type 0 where
   pub pidsDiffer : (i j : ℕ) → i < t .count → j < t .count
       → processAt (t .processes) i .pid ≡ processAt (t .processes) j .pid → i ≡ j
   pub used : (k : ℕ) → Used t k → UsedFacts h t mem (entryAt (t .table .entries) k)
-  pub idsDiffer : (j k : ℕ) → Used t j → Used t k
-      → entryAt (t .table .entries) j .id ≡ entryAt (t .table .entries) k .id → j ≡ k
-  pub sitesDiffer : (j k : ℕ) → Used t j → Used t k
-      → entryAt (t .table .entries) j .site ≡ entryAt (t .table .entries) k .site → j ≡ k
+  pub idsDiffer : Differ (λ e. e .id) (t .table .entries)
+  pub sitesDiffer : Differ (λ e. e .site) (t .table .entries)
   pub marks : (i : ℕ) → i < t .count → markFit (processAt (t .processes) i .state) (processAt (t .processes) i .wanted) ≡ true
   pub current : currentFit (t .selected) (t .current) (t .processes) (t .count) ≡ true
   pub draft : draftFit (t .table .draft) (t .table .entries) ≡ true

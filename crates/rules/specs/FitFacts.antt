@@ -1,15 +1,17 @@
 -- The tests of `fitOf` as facts, and the facts as tests. Assumes nothing.
 use mathlib.Core.Path.{_≡_, sym, ap, _∙_}
-use mathlib.Core.Bool.{Bool, true, false, not, _&&_}
+use mathlib.Core.Bool.{true, false, not, _&&_}
 use mathlib.Core.List.{List}
 use Prim.Native.Nat.{ℕ, _+_, _-_, _*_, _%_, _<_}
 use native.Mathlib.Omega.{arith}
-use borrow.Author.Tests.{ltb-true, ltb-false, leb-true, eqb-true, eqb-false, not-true, lt-ltb, le-leb, eq-eqb, ne-eqb}
+use borrow.Author.Tests.{ltb-true, ltb-false, eqb-false, not-true, lt-ltb, le-leb, eq-eqb, ne-eqb}
 use lib.Dec.{ltb, eqb}
 use lib.ListN.{length, getD}
 use Rattle.common.specs.Every.{every}
 use Rattle.common.proofs.Every.{every-at, every-all}
-use Rattle.common.proofs.Same.{and-both}
+pub use Rattle.common.proofs.Same.{parts}
+use Rattle.common.proofs.Same.{and-left, and-right}
+use Rattle.common.proofs.Tab.{pair-at}
 use Rattle.fit.specs.Fit.{fitOf, windowFit, processAt, pidFit, processesFit, entryAt, apart, siteFit, entryFit, slotFit, entriesFit}
 use Rattle.fit.specs.Fit.{marksFit, currentFit, draftFit}
 use Rattle.memory.specs.Head.{Head, trapBytes}
@@ -23,19 +25,9 @@ use Rattle.target.specs.declared.Entry.{Entry}
 use Rattle.target.specs.declared.Process.{Process}
 use Rattle.target.specs.declared.Target.{Target}
 use Rattle.rules.specs.Breakpoint.{sites, plains}
-use Rattle.rules.specs.Facts.{Used, UsedFacts, Facts, Good}
-use Rattle.rules.specs.Slots.{length-sites, site-at, site-used, site-free, length-plains, plain-byte}
-
--- ---- one part of a conjunction that holds
-
-pub and-left : (a b : Bool) → (a && b) ≡ true → a ≡ true
-and-left a b e = and-both a b e .0
-
-pub and-right : (a b : Bool) → (a && b) ≡ true → b ≡ true
-and-right a b e = and-both a b e .1
-
--- the facts that the parts of a conjunction state
-pub ruleset parts = (and-left, and-right, ltb-true, leb-true, eqb-true)
+use Rattle.rules.specs.Facts.{Shaped, Differ, Used, UsedFacts, Facts, Good}
+use Rattle.rules.specs.Slots as slots
+use Rattle.rules.specs.Slots.{TwoEach, length-sites, length-plains, plain-byte}
 
 -- ---- keys that no two have, one before the other, are different
 
@@ -177,12 +169,12 @@ module _ (head : Head) (t : Target) (mem : List ℕ) where
         every-at k (λ i. apart (entryAt (t .table .entries) i) (entryAt (t .table .entries) k)) (search parts) j l
 
     -- so ids differ
-    pub ids-differ : (j k : ℕ) → Used t j → Used t k → entryAt (t .table .entries) j .id ≡ entryAt (t .table .entries) k .id → j ≡ k
+    pub ids-differ : Differ (λ e. e .id) (t .table .entries)
     ids-differ = differ (Used t) (λ k. entryAt (t .table .entries) k .id)
         (λ j k l u v. apart-differ _ _ (slots-apart j k l (v .0)) (u .1) (v .1) .0)
 
     -- and sites do
-    pub sites-differ : (j k : ℕ) → Used t j → Used t k → entryAt (t .table .entries) j .site ≡ entryAt (t .table .entries) k .site → j ≡ k
+    pub sites-differ : Differ (λ e. e .site) (t .table .entries)
     sites-differ = differ (Used t) (λ k. entryAt (t .table .entries) k .site)
         (λ j k l u v. apart-differ _ _ (slots-apart j k l (v .0)) (u .1) (v .1) .1)
 
@@ -213,8 +205,7 @@ module _ (head : Head) (t : Target) (mem : List ℕ) where
 
   -- used entries that hold what they are to, and differ, are fit
   pub entries-fit : ((k : ℕ) → Used t k → UsedFacts head t mem (entryAt (t .table .entries) k))
-      → ((j k : ℕ) → Used t j → Used t k → entryAt (t .table .entries) j .id ≡ entryAt (t .table .entries) k .id → j ≡ k)
-      → ((j k : ℕ) → Used t j → Used t k → entryAt (t .table .entries) j .site ≡ entryAt (t .table .entries) k .site → j ≡ k)
+      → Differ (λ e. e .id) (t .table .entries) → Differ (λ e. e .site) (t .table .entries)
       → entriesFit head (t .base) mem (t .table .entries) ≡ true
   unfolding entriesFit slotFit
   entries-fit used ids sites = every-all 8 _ (λ k l. rw (
@@ -251,11 +242,18 @@ module _ (head : Head) (t : Target) (mem : List ℕ) where
 
 -- ---- a fit record is one of which the facts hold
 
+pub fit-facts : {head : Head} (t : Target) (mem : List ℕ) → fitOf head t mem ≡ true → Facts head t mem
+fit-facts {head} t mem e = facts-by head t mem (tests-of t mem e)
+
 pub facts-of : {head : Head} (t : Target) (mem : List ℕ) → Good head t mem → Facts head t mem
-facts-of {head} t mem g = facts-by head t mem (tests-of t mem (g .fit))
+facts-of t mem g = fit-facts t mem (g .fit)
 
 pub fit-of : {head : Head} (t : Target) (mem : List ℕ) → Facts head t mem → fitOf head t mem ≡ true
 fit-of {head} t mem f = fit-by t mem (tests-by head t mem f)
+
+-- every entry of a shaped record has two plain bytes
+pub two-each : (t : Target) → Shaped t → TwoEach (t .table .entries)
+two-each t s k h = s .entry k (omega (arith, s .entries)) .plain
 
 -- ---- the slots of a good record
 
@@ -265,11 +263,11 @@ module _ {head : Head} (t : Target) (mem : List ℕ) (g : Good head t mem) where
 
   -- a used slot has its entry's site
   pub slot-used : (k : ℕ) → Used t k → getD (sites t) k 0 ≡ entryAt (t .table .entries) k .site - t .base
-  slot-used k u = site-at (t .base) (t .table .entries) k (omega (arith, u .0, g .shaped .entries)) ∙ site-used (t .base) _ (u .1)
+  slot-used k u = slots.slot-used (t .base) (t .table .entries) k (omega (arith, u .0, g .shaped .entries)) (u .1)
 
   -- a free one has none
   pub slot-free : (k : ℕ) → k < 8 → isFree (entryAt (t .table .entries) k) ≡ true → getD (sites t) k 0 ≡ noSite
-  slot-free k h u = site-at (t .base) (t .table .entries) k (omega (arith, g .shaped .entries)) ∙ site-free (t .base) _ u
+  slot-free k h u = slots.slot-free (t .base) (t .table .entries) k (omega (arith, g .shaped .entries)) u
 
   -- a used slot's site is even
   pub slot-even : (k : ℕ) → Used t k → getD (sites t) k 0 % 2 ≡ 0
@@ -294,16 +292,12 @@ module _ {head : Head} (t : Target) (mem : List ℕ) (g : Good head t mem) where
       let b = f .used k u in
       f .sitesDiffer j k (h, v) u (omega (arith, slot-used j (h, v), slot-used k u, a .low, b .low)))
 
-  -- every entry has two plain bytes
-  two-each : (k : ℕ) → k < length (t .table .entries) → length (entryAt (t .table .entries) k .plain) ≡ 2
-  two-each k h = g .shaped .entry k (omega (arith, g .shaped .entries)) .plain
-
   pub sixteen-plains : length (plains t) ≡ 16
-  sixteen-plains = omega (arith, length-plains (t .table .entries) two-each, g .shaped .entries)
+  sixteen-plains = omega (arith, length-plains (t .table .entries) (two-each t (g .shaped)), g .shaped .entries)
 
   -- a slot's plain bytes are its entry's
   pub slot-byte : (k r : ℕ) → k < 8 → r < 2 → getD (plains t) (k * 2 + r) 0 ≡ getD (entryAt (t .table .entries) k .plain) r 0
-  slot-byte k r h l = plain-byte (t .table .entries) two-each k r (omega (arith, g .shaped .entries)) l
+  slot-byte k r h l = plain-byte (t .table .entries) (two-each t (g .shaped)) k r (omega (arith, g .shaped .entries)) l
 
   -- real memory holds the trap at every site
   pub planted-of : Planted (trapBytes head) (sites t) mem
@@ -311,9 +305,7 @@ module _ {head : Head} (t : Target) (mem : List ℕ) (g : Good head t mem) where
     where
       half : (i s : ℕ) → s + i % 2 ≡ i → getD mem s 0 ≡ head .first → getD mem (s + 1) 0 ≡ head .second
           → getD mem i 0 ≡ getD (trapBytes head) (i % 2) 0
-      half i s p a b = on-same (i % 2) 0
-          (λ z. rw z (ap (λ (n : ℕ). getD mem n 0) (omega arith) ∙ a))
-          (λ n. let o : i % 2 ≡ 1 = omega arith in rw o (ap (λ (n : ℕ). getD mem n 0) (omega arith) ∙ b))
+      half i s p a b = sym (pair-at (λ j. getD mem j 0) s 0 (i % 2) (omega arith) ∙ ap (λ (n : ℕ). getD mem n 0) p) ∙ rw (a, b)
 
       byte : (i : ℕ) → i < length mem → covered 2 (sites t) i ≡ true → getD mem i 0 ≡ getD (trapBytes head) (i % 2) 0
       byte i h e =

@@ -10,14 +10,15 @@ use lib.ListN.{length}
 use Rattle.common.specs.First.{firstOf}
 use Rattle.common.proofs.First.{first-holds, first-le}
 use Rattle.common.proofs.Cases.{on-test}
+use Rattle.common.proofs.Same.{parts}
 use Rattle.fit.specs.Arrays.{idOf, idsOf}
 use Rattle.fit.specs.Fit.{entryAt, entryOf}
 use Rattle.target.specs.Free.{isFree, firstFree}
 use Rattle.target.specs.Fresh.{noEntry}
 use Rattle.target.specs.declared.Entry.{Entry}
 use Rattle.rules.specs.Breakpoint.{isAt, breakpointAt}
+use Rattle.rules.specs.Facts.{UsedIn}
 use Rattle.rules.specs.Slots.{length-ids, id-at, id-used, id-free}
-use Rattle.rules.specs.FitFacts.{parts}
 
 module _ (es : List Entry) where
   -- ---- a free entry
@@ -50,6 +51,10 @@ module _ (es : List Entry) where
     unfolding isAt
     at-site h = let f = found-at h in search parts
 
+    -- of eight entries
+    pub used-at : length es ≡ 8 → breakpointAt es address < length es → UsedIn es (breakpointAt es address)
+    used-at size h = (omega arith, at-used h)
+
     -- one that is used and at the address is found, or an earlier one
     pub at-first : (k : ℕ) → k < length es → isFree (entryAt es k) ≡ false → entryAt es k .site ≡ address → breakpointAt es address ≤ k
     unfolding breakpointAt isAt
@@ -72,6 +77,9 @@ module _ (es : List Entry) where
     -- and has the id
     pub id-is : id < 256 → entryOf es id < length es → entryAt es (entryOf es id) .id ≡ id
     id-is small h = sym (id-used _ (id-is-used small h)) ∙ found-id h
+
+    pub used-id : length es ≡ 8 → id < 256 → entryOf es id < length es → UsedIn es (entryOf es id)
+    used-id size small h = (omega arith, id-is-used small h)
 
     -- one that is used and has the id is found, or an earlier one
     pub id-first : (k : ℕ) → k < length es → isFree (entryAt es k) ≡ false → entryAt es k .id ≡ id → entryOf es id ≤ k

@@ -3,19 +3,19 @@ use mathlib.Core.Path.{_≡_, refl, sym, ap, _∙_}
 use mathlib.Core.Bool.{Bool, true, false, cond}
 use mathlib.Core.List.{List, [], _∷_, _++_, map}
 use Prim.Native.Nat.{ℕ, zero, suc, _<_, _≤_}
-use native.Mathlib.Nat.{not-suc-le-zero, le-of-suc-le-suc}
 use native.Mathlib.Omega.{arith}
-use borrow.Author.Tests.{leb-true, leb-false, eqb-true, eqb-false, lt-ltb, eq-eqb, ne-eqb}
+use borrow.Author.Tests.{leb-true, leb-false, eqb-true, eqb-false, eq-eqb, ne-eqb}
 use lib.Dec.{leb, eqb}
 use lib.ListN.{length, getD, set, take, drop, length-map, List·getD-eq-default, List·getD-map}
-use lib.Seq.{length-take-le, getD-take, getD-set-same, getD-set-other, map-set-same, ext-getD}
+use lib.Seq.{length-take-le, getD-take, map-set-same, ext-getD}
 use Rattle.common.specs.First.{firstOf}
 use Rattle.common.specs.Keys.{among}
 use Rattle.common.specs.Tab.{tab}
 use Rattle.common.proofs.First.{first-holds}
-use Rattle.common.proofs.Tab.{length-tab, tab-at}
+use Rattle.common.proofs.Tab.{length-tab}
 use Rattle.fit.specs.Fit.{processAt, processOf}
-use Rattle.common.proofs.Cases.{on-test, on-same}
+use Rattle.common.proofs.Cases.{on-test, same-eqb}
+use Rattle.common.proofs.Lists.{at-set}
 use Rattle.memory.specs.Head.{Head}
 use Rattle.target.specs.Fresh.{noProcess}
 use Rattle.target.specs.declared.Process.{Process}
@@ -26,13 +26,10 @@ use Rattle.rules.specs.Step.{beginning}
 use Rattle.rules.specs.Book.{others}
 use Rattle.rules.specs.Facts.{Good}
 use Rattle.rules.specs.FitFacts.{facts-of}
+use Rattle.rules.specs.KeptProcesses.{restarted-at, begun-at}
 use Rattle.rules.specs.Agree.{pidsOf, Halted}
 
 -- ---- where a pid is found
-
--- two numbers are the same either way round
-eqb-sym : (a b : ℕ) → eqb a b ≡ eqb b a
-eqb-sym a b = on-same a b (λ q. eq-eqb a b q ∙ sym (eq-eqb b a (sym q))) (λ n. ne-eqb a b n ∙ sym (ne-eqb b a (λ q. n (sym q))))
 
 -- the process that is found has the pid
 found-pid : (ps : List Process) (n pid : ℕ) → n ≤ length ps → processOf ps n pid < n
@@ -61,7 +58,7 @@ pub pid-place : (ps : List Process) (n pid : ℕ) → firstOf (eqb pid) (take n 
 unfolding processOf firstOf
 pid-place ps zero pid = refl
 pid-place [] (suc n) pid = refl
-pid-place (p ∷ ps) (suc n) pid = rw (eqb-sym pid (p .pid), pid-place ps n pid)
+pid-place (p ∷ ps) (suc n) pid = rw (same-eqb pid (p .pid) (p .pid) pid sym sym, pid-place ps n pid)
 
 -- ---- the book's list
 
@@ -102,20 +99,10 @@ pub halted-stored : (n : ℕ) (ps : List Process) (l l′ : List ℕ) (i state w
     → ((j : ℕ) → j < n → (j ≡ i → ⊥) → among l′ (processAt ps j .pid) ≡ among l (processAt ps j .pid))
     → Halted n ps l → Halted n (set ps i (withState (processAt ps i) state wanted)) l′
 unfolding withState isStopped
-halted-stored n ps l l′ i state wanted below now rest v j h = on-same j i
-    (λ q. rw (q, getD-set-same ps i _ noProcess below) now)
-    (λ q. rw (getD-set-other ps i j _ noProcess q) (v j h ∙ sym (rest j h q)))
+halted-stored n ps l l′ i state wanted below now rest v j h =
+    at-set ps i _ noProcess j (λ q. below) (λ p. isStopped p ≡ among l′ (p .pid)) (λ q. now) (λ q. v j h ∙ sym (rest j h q))
 
 -- ---- a restart
-
--- what it makes of the processes
-pub restarted-at : (n : ℕ) (ps : List Process) (i : ℕ) → i < n
-    → processAt (map restarted (take n ps) ++ drop n ps) i ≡ restarted (processAt ps i)
-unfolding restarted withState isStopped
-restarted-at zero ps i h = absurd (not-suc-le-zero h)
-restarted-at (suc n) [] i h = refl
-restarted-at (suc n) (p ∷ ps) zero h = refl
-restarted-at (suc n) (p ∷ ps) (suc i) h = restarted-at n ps i (le-of-suc-le-suc h)
 
 -- it keeps the pids
 pub pids-restarted : (n : ℕ) (ps : List Process) → pidsOf (map restarted (take n ps) ++ drop n ps) ≡ pidsOf ps
@@ -139,16 +126,10 @@ module _ (pids addresses : List ℕ) (n : ℕ) (few : n ≤ 4) where
   abbrev begun : List Process
   begun = tab 4 (beginning pids addresses n)
 
-  -- each listed process begins with its pid, Ready
-  begun-at : (i : ℕ) → i < n
-      → processAt begun i ≡ record { pid = getD pids i 0; address = getD addresses i 0; state = 2; wanted = 0 }
-  unfolding beginning
-  begun-at i h = tab-at 4 (beginning pids addresses n) noProcess i (omega arith) ∙ rw (lt-ltb i n h)
-
   -- none is Stopped
   pub halted-begun : Halted n begun []
   unfolding isStopped among
-  halted-begun i h = rw (begun-at i h)
+  halted-begun i h = rw (begun-at pids addresses n few i h)
 
   -- the pids are those that were given, where each is at least 1
   pub pids-begun : ((i : ℕ) → i < n → 0 < processAt begun i .pid) → take n (pidsOf begun) ≡ take n pids
@@ -156,7 +137,7 @@ module _ (pids addresses : List ℕ) (n : ℕ) (few : n ≤ 4) where
       ext-getD 0 (take n (pidsOf begun)) (take n pids) (all ∙ sym (length-take-le n pids given))
       (λ i h. let g : i < n = omega (arith, all) in
       getD-take n (pidsOf begun) i 0 g ∙ List·getD-map (λ p. p .pid) begun i noProcess
-      ∙ ap (λ (p : Process). p .pid) (begun-at i g) ∙ sym (getD-take n pids i 0 g))
+      ∙ ap (λ (p : Process). p .pid) (begun-at pids addresses n few i g) ∙ sym (getD-take n pids i 0 g))
     where
       all : length (take n (pidsOf begun)) ≡ n
       all = length-take-le n (pidsOf begun) (omega (arith, length-map begun (λ p. p .pid), length-tab 4 (beginning pids addresses n)))
@@ -165,4 +146,4 @@ module _ (pids addresses : List ℕ) (n : ℕ) (few : n ≤ 4) where
       given = on-test (leb n (length pids)) (λ e. leb-true _ _ e)
           (λ e. let h : length pids < n = leb-false n (length pids) e in
           let z : getD pids (length pids) 0 ≡ 0 = List·getD-eq-default pids 0 (omega arith) in
-          absurd (omega (arith, some (length pids) h, ap (λ (p : Process). p .pid) (begun-at (length pids) h))))
+          absurd (omega (arith, some (length pids) h, ap (λ (p : Process). p .pid) (begun-at pids addresses n few (length pids) h))))

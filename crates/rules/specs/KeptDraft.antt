@@ -17,6 +17,7 @@ use Rattle.condition.specs.declared.Room.the-variants.{Fits, Full, Short}
 use Rattle.fit.specs.Arrays.{noId, idOf, idsOf}
 use Rattle.fit.specs.Fit.{entryAt, entryOf, draftTest, draftFit}
 use Rattle.common.proofs.Cases.{on-test}
+use Rattle.common.proofs.Same.{parts}
 use Rattle.target.specs.Free.{isFree, firstFree}
 use Rattle.target.specs.Fresh.{noEntry, freshEntry, closedDraft}
 use Rattle.target.specs.declared.Draft.{Draft}
@@ -26,7 +27,7 @@ use Rattle.rules.specs.Condition.{begun}
 use Rattle.rules.specs.Request.{withPlains}
 use Rattle.rules.specs.Slots.{length-ids, ids-set, ids-with, first-with}
 use Rattle.rules.specs.Found.{free-first}
-use Rattle.rules.specs.FitFacts.{parts}
+use Rattle.rules.specs.Parts.{DraftParts}
 
 -- ---- one element more
 
@@ -78,59 +79,69 @@ module _ (d : Draft) (es : List Entry) where
 -- ---- the changes
 
 -- nothing in hand
-pub closed-fit : (es : List Entry) → draftFit closedDraft es ≡ true
+pub closed-draft : (es : List Entry) → DraftParts closedDraft es
 unfolding draftFit draftTest
-closed-fit es = refl
+closed-draft es = record { elements = refl; id = omega arith; fit = refl }
 
 module _ (es : List Entry) (size : length es ≡ 8) where
   -- a condition begun, with an id that is not in use, where an entry is free
-  pub begun-fit : (id : ℕ) → ltb (entryOf es id) (length es) ≡ false → leb (length es) (firstFree es) ≡ false
-      → draftFit (begun id) es ≡ true
+  pub begun-draft : (id : ℕ) → ltb 255 id ≡ false → ltb (entryOf es id) (length es) ≡ false → leb (length es) (firstFree es) ≡ false
+      → DraftParts (begun id) es
   unfolding entryOf begun wellBegun depthOf depthFrom
-  begun-fit id n r = fit-hand (begun id) es (record {
-    active = refl;
-    begun = refl;
-    unused = omega (arith, ltb-false (entryOf es id) (length es) n, first-within (eqb id) (idsOf es), length-ids es);
-    room = omega (arith, leb-false (length es) (firstFree es) r);
-  })
+  begun-draft id small n r = record {
+    elements = refl;
+    id = omega (arith, ltb-false 255 id small);
+    fit = fit-hand (begun id) es (record {
+      active = refl;
+      begun = refl;
+      unused = omega (arith, ltb-false (entryOf es id) (length es) n, first-within (eqb id) (idsOf es), length-ids es);
+      room = omega (arith, leb-false (length es) (firstFree es) r);
+    });
+  }
 
-  module _ (d : Draft) (h : draftFit d es ≡ true) where
+  module _ (d : Draft) (p : DraftParts d es) where
     -- an element that fits joins what is in hand
-    pub joined-fit : (e : Element) → length (d .elements) ≡ 16 → eqb (d .active) 0 ≡ false → roomFor d e ≡ Fits
-        → draftFit (withElement d e) es ≡ true
+    pub joined-draft : (e : Element) → eqb (d .active) 0 ≡ false → roomFor d e ≡ Fits → DraftParts (withElement d e) es
     unfolding withElement wellBegun
-    joined-fit e l n r =
-        let o = hand-of d es h n in
+    joined-draft e n r =
+        let o = hand-of d es (p .fit) n in
         let f = room-fits d e r in
-        let m = depth-more (d .elements) (d .count) e (omega (arith, f .0)) (f .0) in
-        fit-hand (withElement d e) es (record {
-          active = o .active;
-          unused = o .unused;
-          room = o .room;
-          begun = rw m (lt-ltb 0 (depthAfter (depthOf (d .elements) (d .count)) (e .letter) (e .value)) (omega (arith, f .1)));
-        })
+        let m = depth-more (d .elements) (d .count) e (omega (arith, f .0, p .elements)) (f .0) in
+        record {
+          elements = simp length-set (p .elements);
+          id = p .id;
+          fit = fit-hand (withElement d e) es (record {
+            active = o .active;
+            unused = o .unused;
+            room = o .room;
+            begun = rw m (lt-ltb 0 (depthAfter (depthOf (d .elements) (d .count)) (e .letter) (e .value)) (omega (arith, f .1)));
+          });
+        }
 
     -- an entry is freed
-    pub freed-fit : (k : ℕ) → k < 8 → d .id < 256 → draftFit d (set es k freshEntry) ≡ true
+    pub freed-draft : (k : ℕ) → k < 8 → DraftParts d (set es k freshEntry)
     unfolding draftFit draftTest idOf isFree
-    freed-fit k b small =
-        on-test (eqb (d .active) 0) (λ z. rw z)
-        (λ n.
-        let o = hand-of d es h n in
-        let here : isFree (entryAt (set es k freshEntry) k) ≡ true = ap isFree (getD-set-same es k freshEntry noEntry (omega arith)) in
-        fit-hand d (set es k freshEntry) (record {
-          active = o .active;
-          begun = o .begun;
-          unused = rw (ids-set es k freshEntry)
-              (first-set (eqb (d .id)) (idsOf es) 0 k noId (ne-eqb (d .id) noId (omega arith) ∙ sym (other (o .unused))) ∙ o .unused);
-          room = omega (arith, free-first (set es k freshEntry) k (omega (arith, length-set es k freshEntry)) here);
-        }))
+    freed-draft k b = record {
+      elements = p .elements;
+      id = p .id;
+      fit = on-test (eqb (d .active) 0) (λ z. rw z)
+          (λ n.
+          let o = hand-of d es (p .fit) n in
+          let here : isFree (entryAt (set es k freshEntry) k) ≡ true = ap isFree (getD-set-same es k freshEntry noEntry (omega arith)) in
+          fit-hand d (set es k freshEntry) (record {
+            active = o .active;
+            begun = o .begun;
+            unused = rw (ids-set es k freshEntry)
+                (first-set (eqb (d .id)) (idsOf es) 0 k noId (ne-eqb (d .id) noId (omega (arith, p .id)) ∙ sym (other (o .unused))) ∙ o .unused);
+            room = omega (arith, free-first (set es k freshEntry) k (omega (arith, length-set es k freshEntry)) here);
+          }));
+    }
       where
         other : firstOf (eqb (d .id)) (idsOf es) ≡ 8 → eqb (d .id) (getD (idsOf es) k 0) ≡ false
         other u = on-test (eqb (d .id) (getD (idsOf es) k 0))
             (λ q. absurd (omega (arith, first-le (eqb (d .id)) (idsOf es) 0 k (omega (arith, length-ids es)) q))) (λ q. q)
 
     -- plain bytes change
-    pub with-fit : (bytes : List ℕ) → draftFit d (withPlains es bytes) ≡ true
+    pub with-draft : (bytes : List ℕ) → DraftParts d (withPlains es bytes)
     unfolding draftFit
-    with-fit bytes = rw (ids-with, first-with) h
+    with-draft bytes = record { elements = p .elements; id = p .id; fit = rw (ids-with, first-with) (p .fit) }

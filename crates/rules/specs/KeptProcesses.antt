@@ -1,21 +1,23 @@
 -- The processes of a good record stay good: a state and a mark set, a restart, and setup. Assumes nothing.
 use mathlib.Core.Path.{_≡_, refl, sym, ap, _∙_}
 use mathlib.Core.Bool.{Bool, true, false, not, _&&_, _||_}
-use mathlib.Core.List.{List, _++_, map}
-use Prim.Native.Nat.{ℕ, _≤_, _<_}
+use mathlib.Core.List.{List, [], _∷_, _++_, map}
+use Prim.Native.Nat.{ℕ, zero, suc, _≤_, _<_}
+use native.Mathlib.Nat.{not-suc-le-zero, le-of-suc-le-suc}
 use native.Mathlib.Omega.{arith}
 use borrow.Author.Tests.{lt-ltb}
 use lib.Dec.{leb, ltb, eqb}
-use lib.ListN.{length, take, drop, set, length-set, length-append, length-take, length-drop, length-map, List·getD-append, List·getD-map}
-use lib.Seq.{getD-set-same, getD-set-other, getD-take, take-set-lt}
+use lib.ListN.{length, getD, take, drop, set, length-set, length-append, length-take, length-drop, length-map}
+use lib.Seq.{getD-take, take-set-lt}
 use Rattle.common.specs.Every.{every}
 use Rattle.common.specs.Tab.{tab}
 use Rattle.common.proofs.Every.{every-at, every-all, every-ext}
 use Rattle.common.proofs.First.{first-set}
+use Rattle.common.proofs.Lists.{at-set}
 use Rattle.common.proofs.Tab.{length-tab, tab-at}
 use Rattle.fit.proofs.Laws.{processes-few}
 use Rattle.fit.specs.Fit.{stopped, processAt, pidFit, processesFit, markFit, marksFit, processOf, currentFit}
-use Rattle.common.proofs.Cases.{on-test, on-same}
+use Rattle.common.proofs.Cases.{on-test}
 use Rattle.target.specs.Fresh.{noProcess}
 use Rattle.target.specs.declared.Process.{Process}
 use Rattle.rules.specs.Record.{ready, withState, isStopped}
@@ -69,10 +71,7 @@ module _ (ps : List Process) (n selected pid : ℕ) (c : ProcessParts ps n selec
 
   -- what holds of it and of the others holds of each
   each : (P : Process → Type 0) (j : ℕ) → (j ≡ i → P now) → ((j ≡ i → ⊥) → P (processAt ps j)) → P (processAt (set ps i now) j)
-  each P j here there =
-      on-same j i
-      (λ q. rw (q, getD-set-same ps i now noProcess inside) (here q))
-      (λ d. rw (getD-set-other ps i j now noProcess d) (there d))
+  each P j = at-set ps i now noProcess j (λ q. inside) P
 
   -- a pid is found where it was
   same-index : processOf (set ps i now) n pid ≡ processOf ps n pid
@@ -95,21 +94,18 @@ module _ (ps : List Process) (n selected pid : ℕ) (c : ProcessParts ps n selec
 
 -- ---- a restart
 
+-- what it makes of the processes
+pub restarted-at : (n : ℕ) (ps : List Process) (i : ℕ) → i < n
+    → processAt (map restarted (take n ps) ++ drop n ps) i ≡ restarted (processAt ps i)
+unfolding restarted withState isStopped
+restarted-at zero ps i h = absurd (not-suc-le-zero h)
+restarted-at (suc n) [] i h = refl
+restarted-at (suc n) (p ∷ ps) zero h = refl
+restarted-at (suc n) (p ∷ ps) (suc i) h = restarted-at n ps i (le-of-suc-le-suc h)
+
 module _ (ps : List Process) (n selected pid : ℕ) (c : ProcessParts ps n selected pid) where
   abbrev begun : List Process
   begun = map restarted (take n ps) ++ drop n ps
-
-  small : n ≤ 4
-  small = processes-few ps n (c .pids)
-
-  -- each process is restarted
-  begun-at : (i : ℕ) → i < n → processAt begun i ≡ restarted (processAt ps i)
-  unfolding restarted withState isStopped
-  begun-at i h =
-      List·getD-append (map restarted (take n ps)) (drop n ps) noProcess i
-      (omega (arith, length-map (take n ps) restarted, length-take n ps, c .four, small))
-      ∙ List·getD-map restarted (take n ps) i noProcess
-      ∙ ap restarted (getD-take n ps i noProcess h)
 
   -- the processes are fit, and none is current
   pub restart-parts : ProcessParts begun n 0 0
@@ -122,24 +118,30 @@ module _ (ps : List Process) (n selected pid : ℕ) (c : ProcessParts ps n selec
       length-take n ps,
       length-drop n ps,
       c .four,
-      small,
+      processes-few ps n (c .pids),
     );
-    pids = pids-same ps begun n (λ i h. ap (λ (p : Process). p .pid) (begun-at i h)) ∙ c .pids;
-    marks = every-all n _ (λ i h. rw (begun-at i h) (mark-none _));
+    pids = pids-same ps begun n (λ i h. ap (λ (p : Process). p .pid) (restarted-at n ps i h)) ∙ c .pids;
+    marks = every-all n _ (λ i h. rw (restarted-at n ps i h) (mark-none _));
     current = refl;
   }
 
 -- ---- setup
 
 module _ (pids addresses : List ℕ) (n : ℕ) where
+  -- each listed process begins with its pid, Ready
+  pub begun-at : n ≤ 4 → (i : ℕ) → i < n
+      → processAt (tab 4 (beginning pids addresses n)) i
+      ≡ record { pid = getD pids i 0; address = getD addresses i 0; state = ready; wanted = 0 }
+  unfolding beginning
+  begun-at few i h = tab-at 4 (beginning pids addresses n) noProcess i (omega arith) ∙ rw (lt-ltb i n h)
+
   -- processes that pass the rule of setup are fit, and none is current
   pub setup-parts : processesFit (tab 4 (beginning pids addresses n)) n ≡ true
       → ProcessParts (tab 4 (beginning pids addresses n)) n 0 0
-  unfolding marksFit currentFit beginning
+  unfolding marksFit currentFit
   setup-parts e = record {
     four = length-tab 4 (beginning pids addresses n);
     pids = e;
-    marks = every-all n _
-        (λ i h. rw (tab-at 4 (beginning pids addresses n) noProcess i (omega (arith, processes-few _ n e)), lt-ltb i n h) (mark-none ready));
+    marks = every-all n _ (λ i h. rw (begun-at (processes-few _ n e) i h) (mark-none ready));
     current = refl;
   }

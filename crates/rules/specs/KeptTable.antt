@@ -4,14 +4,15 @@ use mathlib.Core.Bool.{true, false}
 use mathlib.Core.List.{List, [], _∷_}
 use Prim.Native.Nat.{ℕ, _-_, _<_}
 use native.Mathlib.Omega.{arith}
-use lib.ListN.{length, set, length-set, length-take, length-drop, getD-replicate}
+use lib.ListN.{length, set, replicate, length-set, length-take, length-drop, getD-replicate}
 use Rattle.common.proofs.Same.{true-or-false}
 use Rattle.fit.specs.Arrays.{siteOf, sitesOf}
-use Rattle.fit.specs.Fit.{entryAt, draftFit}
+use Rattle.fit.specs.Fit.{entryAt}
 use Rattle.memory.specs.Head.{Head, trapBytes}
 use Rattle.memory.specs.Overlay.{noSite, laidOver}
 use Rattle.memory.specs.Write.{memAfter, plainAfter}
 use Rattle.memory.proofs.Site.{no-site-free}
+use Rattle.memory.proofs.Slots.{free-slots}
 use Rattle.memory.proofs.Bytes.{length-laid, length-mem-after, length-plain-after}
 use Rattle.memory_laws.specs.Laws.{planted-written, no-traps-planted}
 use Rattle.memory_laws.specs.Planting.{planted-more, removed-planted}
@@ -24,11 +25,11 @@ use Rattle.rules.specs.Breakpoint.{sites, plains}
 use Rattle.rules.specs.Facts.{ShapedEntry, Used, Good}
 use Rattle.rules.specs.Record.{withTable, withDraft, withEntries}
 use Rattle.rules.specs.Request.{withPlains}
-use Rattle.rules.specs.Slots.{length-sites, site-at, site-used, site-free, sites-set, length-with, with-at, sites-with}
+use Rattle.rules.specs.Slots.{site-used, sites-set, length-with, with-at, sites-with}
 use Rattle.rules.specs.FitFacts.{eight-sites, slot-used, slot-free, slot-only, sixteen-plains}
-use Rattle.rules.specs.Rows.{Row, at-set, rows-set, rows-with, fresh-free, rows-fresh}
-use Rattle.rules.specs.Parts.{TableParts, parts-of, good-table}
-use Rattle.rules.specs.KeptDraft.{closed-fit, freed-fit, with-fit}
+use Rattle.rules.specs.Rows.{Row, stored-at, rows-set, rows-with, rows-fresh}
+use Rattle.rules.specs.Parts.{DraftParts, TableParts, parts-of, good-table}
+use Rattle.rules.specs.KeptDraft.{closed-draft, freed-draft, with-draft}
 
 -- a fresh entry has its shape
 fresh-shaped : ShapedEntry freshEntry
@@ -37,17 +38,13 @@ fresh-shaped = record { plain = refl; elements = refl; id = omega arith }
 -- ---- a fresh table, over any memory
 
 pub fresh-parts : {head : Head} (base n : ℕ) (mem : List ℕ) → length mem ≡ n → TableParts head base n freshTable mem
+unfolding sitesOf siteOf isFree
 fresh-parts {head} base n mem size = record {
   eight = refl;
   entry = λ k h. rw (getD-replicate 8 k freshEntry noEntry h) fresh-shaped;
-  draftElements = refl;
-  draftId = omega arith;
-  draft = closed-fit (freshTable .entries);
+  draft = closed-draft (freshTable .entries);
   rows = rows-fresh base n;
-  planted = no-traps-planted (trapBytes head) (sitesOf base (freshTable .entries)) mem
-      (λ j h i q.
-      let l : j < 8 = omega (arith, length-sites base (freshTable .entries)) in
-      no-site-free 2 (omega arith) i (q ∙ site-at base (freshTable .entries) j l ∙ site-free base _ (fresh-free j l)));
+  planted = no-traps-planted (trapBytes head) (replicate 8 noSite) mem (free-slots 2 (omega arith) 8);
   sized = size;
 }
 
@@ -61,15 +58,12 @@ module _ {head : Head} (t : Target) (mem : List ℕ) (g : Good head t mem) where
 
   -- ---- the condition in hand
 
-  pub good-draft : (d : Draft) → length (d .elements) ≡ 16 → d .id < 256 → draftFit d (t .table .entries) ≡ true
-      → Good head (withDraft t d) mem
+  pub good-draft : (d : Draft) → DraftParts d (t .table .entries) → Good head (withDraft t d) mem
   unfolding withDraft
-  good-draft d l i e = good-table t mem g _ mem (record {
+  good-draft d p = good-table t mem g _ mem (record {
     eight = old .eight;
     entry = old .entry;
-    draftElements = l;
-    draftId = i;
-    draft = e;
+    draft = p;
     rows = old .rows;
     planted = old .planted;
     sized = old .sized;
@@ -79,7 +73,7 @@ module _ {head : Head} (t : Target) (mem : List ℕ) (g : Good head t mem) where
 
   -- the shapes of the entries
   stored : (k : ℕ) (e : Entry) → k < 8 → ShapedEntry e → (j : ℕ) → j < 8 → ShapedEntry (entryAt (set es k e) j)
-  stored k e h s j l = at-set es (old .eight) k e h ShapedEntry j (λ q. s) (λ n. old .entry j l)
+  stored k e h s j l = stored-at es (old .eight) k e h ShapedEntry j (λ q. s) (λ n. old .entry j l)
 
   -- a breakpoint is made in a free entry, and nothing is in hand
   pub good-made : (k : ℕ) (e : Entry) → k < 8 → isFree (entryAt (t .table .entries) k) ≡ true → ShapedEntry e → isFree e ≡ false
@@ -91,9 +85,7 @@ module _ {head : Head} (t : Target) (mem : List ℕ) (g : Good head t mem) where
   good-made k e h free shape used row id site = good-table t mem g _ _ (record {
     eight = length-set es k e ∙ old .eight;
     entry = stored k e h shape;
-    draftElements = refl;
-    draftId = omega arith;
-    draft = closed-fit _;
+    draft = closed-draft _;
     rows = rows-set es (old .eight) k e h (t .base) (t .size) (old .rows)
         (λ u. row) (λ u j v n. id j v) (λ u j v n. site j v);
     planted = rw (sites-set (t .base) es k e, site-used (t .base) e used)
@@ -110,9 +102,7 @@ module _ {head : Head} (t : Target) (mem : List ℕ) (g : Good head t mem) where
   good-freed k (h, u) = good-table t mem g _ _ (record {
     eight = length-set es k freshEntry ∙ old .eight;
     entry = stored k freshEntry h fresh-shaped;
-    draftElements = old .draftElements;
-    draftId = old .draftId;
-    draft = freed-fit es (old .eight) (t .table .draft) (old .draft) k h (old .draftId);
+    draft = freed-draft es (old .eight) (t .table .draft) (old .draft) k h;
     rows = rows-set es (old .eight) k freshEntry h (t .base) (t .size) (old .rows)
         (λ e. true-or-false (sym e)) (λ e. true-or-false (sym e)) (λ e. true-or-false (sym e));
     planted = rw (sites-set (t .base) es k freshEntry) (rw (slot-used t mem g k (h, u)) at
@@ -136,9 +126,7 @@ module _ {head : Head} (t : Target) (mem : List ℕ) (g : Good head t mem) where
         let o = old .entry k h in
         rw (with-at es b k (omega (arith, old .eight)))
         (record { plain = simp (length-take, length-drop) (omega arith); elements = o .elements; id = o .id });
-    draftElements = old .draftElements;
-    draftId = old .draftId;
-    draft = with-fit es (old .eight) (t .table .draft) (old .draft) _;
+    draft = with-draft es (old .eight) (t .table .draft) (old .draft) _;
     rows = rows-with es (old .eight) _ (t .base) (t .size) (old .rows);
     planted = rw (sites-with (t .base) es) (planted-written (trapBytes head) (sites t) mem at bytes (old .planted));
     sized = length-mem-after 2 (sites t) mem at bytes ∙ old .sized;

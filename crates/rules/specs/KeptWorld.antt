@@ -1,17 +1,18 @@
 -- A good world stays good: each kind of change that a step makes to the record and to memory. Assumes nothing.
-use mathlib.Core.Path.{_≡_, refl, sym}
-use mathlib.Core.Bool.{Bool, true, false, cond, _||_}
+use mathlib.Core.Path.{_≡_, refl}
+use mathlib.Core.Bool.{true, false}
 use mathlib.Core.List.{List}
 use Prim.Native.Nat.{ℕ, _+_, _-_, _≤_, _<_}
 use native.Mathlib.Omega.{arith}
-use borrow.Author.Tests.{ltb-true, ltb-false, not-true}
+use borrow.Author.Tests.{ltb-true, not-true}
 use lib.Dec.{leb, ltb, eqb}
-use lib.ListN.{length, length-set}
-use Rattle.common.proofs.Same.{true-or-false}
+use lib.ListN.{length}
+use Rattle.common.proofs.Cases.{choose}
+use Rattle.common.proofs.Same.{parts}
 use Rattle.condition.specs.Depth.{wellFormed}
 use Rattle.condition.specs.Add.{roomFor, withElement}
 use Rattle.condition.specs.declared.Room.the-variants.{Fits}
-use Rattle.fit.specs.Fit.{stopped, entryAt, entryOf, markFit}
+use Rattle.fit.specs.Fit.{stopped, entryOf, markFit}
 use Rattle.memory.specs.Head.{Head}
 use Rattle.target.specs.Free.{isFree, firstFree}
 use Rattle.target.specs.declared.Element.{Element}
@@ -20,27 +21,16 @@ use Rattle.rules.specs.Record.{withDraft, setState, stopWith}
 use Rattle.rules.specs.Breakpoint.{breakpointAt, madeEntry, planted, removed, removedAt}
 use Rattle.rules.specs.Condition.{dropped, inHand, begun, siteFree}
 use Rattle.rules.specs.Request.{windowWritten}
-use Rattle.rules.specs.Facts.{Good}
-use Rattle.rules.specs.Found.{free-found, at-used, at-first, id-first}
-use Rattle.rules.specs.FitFacts.{parts}
+use Rattle.rules.specs.Facts.{Used, Good}
+use Rattle.rules.specs.Found.{free-found, used-at, at-first, id-first}
 use Rattle.rules.specs.Parts.{parts-of, good-processes}
 use Rattle.rules.specs.KeptProcesses.{mark-none, state-parts}
-use Rattle.rules.specs.KeptDraft.{closed-fit, hand-of, begun-fit, joined-fit}
+use Rattle.rules.specs.KeptDraft.{closed-draft, hand-of, begun-draft, joined-draft}
 use Rattle.rules.specs.KeptTable.{good-draft, good-made, good-freed, good-written}
 
 -- the record is good with its memory
 abbrev pub GoodWorld : Head → World → Type 0
 GoodWorld head w = Good head (w .target) (w .mem)
-
--- what holds of both branches of a test holds of the one that is taken
-pub choose : {A : Type 0} (P : A → Type 0) (c : Bool) {a b : A} → (c ≡ true → P a) → (c ≡ false → P b) → P (cond c a b)
-choose P true h k = h refl
-choose P false h k = k refl
-
--- both parts of a disjunction that fails fail
-pub neither : (a b : Bool) → (a || b) ≡ false → (a ≡ false) × (b ≡ false)
-neither true b e = true-or-false (sym e)
-neither false b e = (refl, e)
 
 module _ {head : Head} (w : World) (g : GoodWorld head w) where
   -- ---- the condition in hand
@@ -48,28 +38,25 @@ module _ {head : Head} (w : World) (g : GoodWorld head w) where
   -- it is dropped
   pub good-dropped : GoodWorld head (dropped w)
   unfolding dropped
-  good-dropped = good-draft (w .target) (w .mem) g _ refl (omega arith) (closed-fit _)
+  good-dropped = good-draft (w .target) (w .mem) g _ (closed-draft _)
 
   -- one is begun, with an id that is free, where an entry is
   pub good-begun : (val : ℕ) → ltb 255 val ≡ false
       → ltb (entryOf (w .target .table .entries) val) (length (w .target .table .entries)) ≡ false
       → leb (length (w .target .table .entries)) (firstFree (w .target .table .entries)) ≡ false
       → Good head (withDraft (w .target) (begun val)) (w .mem)
-  unfolding begun
   good-begun val small new room =
-      good-draft (w .target) (w .mem) g (begun val) refl (omega (arith, ltb-false 255 val small))
-      (begun-fit (w .target .table .entries) (g .shaped .entries) val new room)
+      good-draft (w .target) (w .mem) g (begun val) (begun-draft (w .target .table .entries) (g .shaped .entries) val small new room)
 
   -- an element that fits joins it
   pub good-joined : (e : Element) → inHand w ≡ true → roomFor (w .target .table .draft) e ≡ Fits
       → Good head (withDraft (w .target) (withElement (w .target .table .draft) e)) (w .mem)
-  unfolding inHand withElement
+  unfolding inHand
   good-joined e hand room =
       let d = w .target .table .draft in
-      let s = g .shaped in
-      good-draft (w .target) (w .mem) g (withElement d e) (simp length-set (s .draftElements)) (s .draftId)
-      (joined-fit (w .target .table .entries) (s .entries) d (parts-of (w .target) (w .mem) g .table .draft) e (s .draftElements)
-      (not-true (eqb (d .active) 0) hand) room)
+      let o = parts-of (w .target) (w .mem) g .table in
+      good-draft (w .target) (w .mem) g (withElement d e)
+      (joined-draft (w .target .table .entries) (o .eight) d (o .draft) e (not-true (eqb (d .active) 0) hand) room)
 
   -- ---- processes
 
@@ -87,10 +74,9 @@ module _ {head : Head} (w : World) (g : GoodWorld head w) where
   -- ---- breakpoints and bytes
 
   -- a breakpoint is removed
-  pub good-removed : (k : ℕ) → k < length (w .target .table .entries) → isFree (entryAt (w .target .table .entries) k) ≡ false
-      → GoodWorld head (removed w k)
+  pub good-removed : (k : ℕ) → Used (w .target) k → GoodWorld head (removed w k)
   unfolding removed
-  good-removed k h u = good-freed (w .target) (w .mem) g k (omega (arith, g .shaped .entries), u)
+  good-removed k u = good-freed (w .target) (w .mem) g k u
 
   -- the one at an address is, where there is one
   pub good-removed-at : (address : ℕ) → GoodWorld head (removedAt w address)
@@ -98,7 +84,7 @@ module _ {head : Head} (w : World) (g : GoodWorld head w) where
   good-removed-at address =
       let es = w .target .table .entries in
       choose (GoodWorld head) (ltb (breakpointAt es address) (length es))
-      (λ e. let h = ltb-true _ _ e in good-removed (breakpointAt es address) h (at-used es address h)) (λ e. g)
+      (λ e. good-removed (breakpointAt es address) (used-at es address (g .shaped .entries) (ltb-true _ _ e))) (λ e. g)
 
   -- one is made
   pub good-planted : (site : ℕ) → inHand w ≡ true → siteFree w site ≡ true
@@ -107,7 +93,7 @@ module _ {head : Head} (w : World) (g : GoodWorld head w) where
   good-planted site hand free formed =
       let es = w .target .table .entries in
       let d = w .target .table .draft in
-      let o = hand-of d es (parts-of (w .target) (w .mem) g .table .draft) (not-true (eqb (d .active) 0) hand) in
+      let o = hand-of d es (parts-of (w .target) (w .mem) g .table .draft .fit) (not-true (eqb (d .active) 0) hand) in
       let none : length es ≤ breakpointAt es site = search parts in
       let eight = g .shaped .entries in
       let fits : site + 2 ≤ w .target .base + w .target .size = search parts in

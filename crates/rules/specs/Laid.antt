@@ -1,42 +1,43 @@
 -- Memory and the book: real memory is the book's, and each change of the table leaves plain memory as the book says.
 use mathlib.Core.Path.{_≡_, refl, sym, ap, _∙_}
-use mathlib.Core.Bool.{Bool, true, false}
+use mathlib.Core.Bool.{true, false}
 use mathlib.Core.List.{List, [], _∷_}
-use Prim.Native.Nat.{ℕ, zero, suc, _+_, _-_, _*_, _<_}
-use native.Mathlib.Nat.{add-zero}
+use Prim.Native.Nat.{ℕ, _+_, _-_, _*_, _<_}
 use native.Mathlib.Omega.{arith}
 use lib.ListN.{length, getD, set, replicate, length-set}
+use lib.Seq.{getD-set-same, getD-set-other}
+use Rattle.common.proofs.Lists.{at-set}
 use Rattle.fit.specs.Arrays.{siteOf, sitesOf, plainsOf}
 use Rattle.fit.specs.Fit.{entryAt}
 use Rattle.memory.specs.Head.{Head, trapBytes}
 use Rattle.memory.specs.Overlay.{noSite, siteOver, slotOf, covered, plainAt, plainOf, laidOver}
 use Rattle.memory.specs.Place.{placeOf}
 use Rattle.memory.specs.Write.{overwritten, memAfter, plainAfter}
-use Rattle.common.proofs.Cases.{on-test, on-same}
+use Rattle.memory.specs.declared.Place.{Place}
+use Rattle.memory.specs.declared.Place.the-variants.{Registers, Window, Nowhere}
+use borrow.Author.Tests.{ltb-true}
+use Rattle.common.proofs.Same.{true-or-false, and-both}
+use Rattle.common.proofs.Cases.{on-test, same-test}
+use Rattle.common.proofs.Tab.{pair-at}
 use Rattle.memory.proofs.Site.{no-site-free}
 use Rattle.memory.proofs.Slots.{slot-below, slot-site, covered-by, free-slots}
 use Rattle.memory.proofs.Bytes.{length-plain-after, no-traps}
 use Rattle.memory_laws.specs.Laws.{laid-plain, laid-same, plain-written}
 use Rattle.memory_laws.specs.Planting.{planted-plain, removed-plain}
 use Rattle.target.specs.Free.{isFree}
-use Rattle.target.specs.Fresh.{freshEntry}
+use Rattle.target.specs.Fresh.{noEntry, freshEntry}
 use Rattle.target.specs.declared.Entry.{Entry}
 use Rattle.target.specs.declared.Target.{Target}
 use Rattle.rules.specs.Breakpoint.{sites, plains}
 use Rattle.rules.specs.Request.{withPlains}
-use Rattle.rules.specs.Book.{Breakpoint, Book, Setup, sitesBy, realBy}
+use Rattle.rules.specs.Book.{Breakpoint, Book, Setup, intoWindow, inWindow, sitesBy, realBy}
 use Rattle.rules.specs.Facts.{Good, Used}
 use Rattle.rules.specs.Slots.{sites-set, plain-byte, sites-with, plains-with}
 use Rattle.rules.specs.FitFacts.{planted-of, slot-used, slot-free, slot-only, slot-byte, eight-sites, sixteen-plains}
 use Rattle.rules.specs.Agree.{dressed, Agree}
-use Rattle.rules.specs.Listed.{member-place, place-member, entry-here, entry-away}
+use Rattle.rules.specs.Listed.{member-place, place-member}
 
 -- ---- real memory is the book's
-
--- two tests that imply each other
-same-test : (a b : Bool) → (a ≡ true → b ≡ true) → (b ≡ true → a ≡ true) → a ≡ b
-same-test true b f g = sym (f refl)
-same-test false b f g = on-test b (λ e. g e ∙ sym e) (λ e. sym e)
 
 -- an offset is under a trap of the table where it is under one of the book
 pub same-covered : {head : Head} (s : Setup) (b : Book) (t : Target) (mem : List ℕ) → Agree head s b t mem → (i : ℕ)
@@ -84,6 +85,19 @@ pub same-place : {head : Head} (s : Setup) (b : Book) (t : Target) (mem : List �
 same-place s b t mem a addr n =
     sym (ap (λ (k : ℕ). placeOf k (t .size) addr n) (a .follows .base) ∙ ap (λ (k : ℕ). placeOf (s .base) k addr n) (a .follows .size))
 
+into-window : (p : Place) → intoWindow p ≡ true → p ≡ Window
+unfolding intoWindow
+into-window Registers e = true-or-false e
+into-window Window e = refl
+into-window Nowhere e = true-or-false e
+
+-- those that the book has in the window are some, and are there
+pub in-window : {head : Head} (s : Setup) (b : Book) (t : Target) (mem : List ℕ) → Agree head s b t mem → (addr n : ℕ)
+    → inWindow s addr n ≡ true → (0 < n) × (placeOf (t .base) (t .size) addr n ≡ Window)
+unfolding inWindow
+in-window s b t mem a addr n e =
+    let p = and-both _ _ e in (ltb-true 0 n (p .0), sym (same-place s b t mem a addr n) ∙ into-window _ (p .1))
+
 -- ---- the plain bytes of a table with one entry stored
 
 module _ {head : Head} (t : Target) (mem : List ℕ) (good : Good head t mem)
@@ -95,13 +109,13 @@ module _ {head : Head} (t : Target) (mem : List ℕ) (good : Good head t mem)
   size = length-set es k e ∙ good .shaped .entries
 
   here : entryAt (set es k e) k ≡ e
-  here = entry-here es k e (omega (arith, good .shaped .entries))
+  here = getD-set-same es k e noEntry (omega (arith, good .shaped .entries))
 
   -- every entry has two plain bytes
   wide : (j : ℕ) → j < length (set es k e) → length (entryAt (set es k e) j .plain) ≡ 2
-  wide j h = on-same j k
-      (λ q. ap (λ (x : Entry). length (x .plain)) (ap (entryAt (set es k e)) q ∙ here) ∙ two)
-      (λ n. ap (λ (x : Entry). length (x .plain)) (entry-away es k e j n) ∙ good .shaped .entry j (omega (arith, size)) .plain)
+  wide j h =
+      at-set es k e noEntry j (λ q. omega (arith, size, length-set es k e)) (λ x. length (x .plain) ≡ 2) (λ q. two)
+      (λ n. good .shaped .entry j (omega (arith, size)) .plain)
 
   -- those of the entry
   stored-plain : (r : ℕ) → r < 2 → getD (plainsOf (set es k e)) (k * 2 + r) 0 ≡ getD (e .plain) r 0
@@ -112,7 +126,7 @@ module _ {head : Head} (t : Target) (mem : List ℕ) (good : Good head t mem)
   kept-plain : (j r : ℕ) → j < 8 → r < 2 → (j ≡ k → ⊥) → getD (plainsOf (set es k e)) (j * 2 + r) 0 ≡ getD (plainsOf es) (j * 2 + r) 0
   kept-plain j r h g n =
       plain-byte (set es k e) wide j r (omega (arith, size)) g
-      ∙ ap (λ (x : Entry). getD (x .plain) r 0) (entry-away es k e j n)
+      ∙ ap (λ (x : Entry). getD (x .plain) r 0) (getD-set-other es k j e noEntry n)
       ∙ sym (slot-byte t mem good j r h g)
 
 -- ---- plain memory stays as it was
@@ -149,18 +163,12 @@ module _ {head : Head} (t : Target) (mem : List ℕ) (good : Good head t mem) wh
       (planted-plain (trapBytes head) (sites t) mem k s
       (λ i q. no-site-free 2 (omega arith) i (q ∙ slot-free t mem good k below free))
       (plains t) (plainsOf (set (t .table .entries) k e)) (omega arith) (omega arith)
-      (λ r h. stored-plain t mem good k e below (ap length bytes) r h ∙ ap (λ (l : List ℕ). getD l r 0) bytes ∙ byte r h)
+      (λ r h. stored-plain t mem good k e below (ap length bytes) r h ∙ ap (λ (l : List ℕ). getD l r 0) bytes
+      ∙ pair-at (plainAt 2 (sites t) (plains t) mem) s 0 r h)
       (λ j r h g n. kept-plain t mem good k e below (ap length bytes) j r (omega arith) g n))
     where
       s : ℕ
       s = e .site - t .base
-
-      byte : (r : ℕ) → r < 2
-          → getD (plainAt 2 (sites t) (plains t) mem s ∷ plainAt 2 (sites t) (plains t) mem (s + 1) ∷ []) r 0
-          ≡ plainAt 2 (sites t) (plains t) mem (s + r)
-      byte zero h = rw add-zero
-      byte (suc zero) h = refl
-      byte (suc (suc r)) h = absurd (omega arith)
 
 -- ---- a write puts its bytes into plain memory
 

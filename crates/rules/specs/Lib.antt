@@ -7,6 +7,7 @@ pub mod Event
 pub mod Step
 pub mod Change
 pub mod Ready
+pub mod Outcomes
 pub mod Worked
 pub mod Replies
 pub mod Refusals
@@ -28,8 +29,6 @@ pub mod Listed
 pub mod Laid
 pub mod Halted
 pub mod Moves
-pub mod Fed
-pub mod AfterCondition
 pub mod AfterRequest
 pub mod AfterStep
 pub mod Reads

@@ -6,18 +6,19 @@ use mathlib.Core.Logic.{_⊎_, ⊎-elim}
 use Prim.Native.Nat.{ℕ, zero, suc, _<_}
 use native.Mathlib.Nat.{not-suc-le-zero, le-of-suc-le-suc}
 use native.Mathlib.Omega.{arith}
-use lib.ListN.{length, getD, set, replicate, getD-replicate}
+use lib.ListN.{length, getD, set, replicate}
 use lib.Seq.{getD-set-same, getD-set-other}
 use Rattle.common.proofs.Same.{true-or-false}
 use Rattle.fit.specs.Fit.{entryAt}
-use Rattle.common.proofs.Cases.{on-test, on-same}
+use Rattle.common.proofs.Cases.{on-test}
+use Rattle.common.proofs.Lists.{at-set}
 use Rattle.target.specs.Free.{isFree}
 use Rattle.target.specs.Fresh.{noEntry, freshEntry}
 use Rattle.target.specs.declared.Entry.{Entry}
 use Rattle.rules.specs.Request.{withPlains}
 use Rattle.rules.specs.Book.{Breakpoint, without}
-use Rattle.rules.specs.Rows.{UsedIn}
-use Rattle.rules.specs.Slots.{with-at}
+use Rattle.rules.specs.Facts.{UsedIn}
+use Rattle.rules.specs.Rows.{with-same, fresh-free}
 use Rattle.rules.specs.Agree.{dressed, Held, Listed}
 
 -- ---- membership
@@ -66,14 +67,6 @@ module _ (f : Breakpoint → Bool) where
 free-not : {P : Type 0} (e : Entry) → isFree e ≡ true → isFree e ≡ false → P
 free-not e f u = true-or-false (sym u ∙ f)
 
--- one entry stored: it is there, and the others are as they were
-module _ (es : List Entry) (k : ℕ) (e : Entry) where
-  pub entry-here : k < length es → entryAt (set es k e) k ≡ e
-  entry-here h = getD-set-same es k e noEntry h
-
-  pub entry-away : (j : ℕ) → (j ≡ k → ⊥) → entryAt (set es k e) j ≡ entryAt es j
-  entry-away j n = getD-set-other es k j e noEntry n
-
 -- an entry that is as it was is the breakpoint that it was
 held-still : (es es′ : List Entry) (x : Breakpoint) (h : Held es x) → entryAt es′ (h .place) ≡ entryAt es (h .place) → Held es′ x
 held-still es es′ x h o = record { place = h .place; used = (h .used .0, ap isFree o ∙ h .used .1); same = ap dressed o ∙ h .same }
@@ -81,9 +74,8 @@ held-still es es′ x h o = record { place = h .place; used = (h .used .0, ap is
 -- ---- a fresh table has none, and no more has the book
 
 pub listed-fresh : Listed (replicate 8 freshEntry) []
-unfolding isFree
 listed-fresh = record {
-  into = λ k u. free-not freshEntry refl (sym (ap isFree (getD-replicate 8 k freshEntry noEntry (u .0))) ∙ u .1);
+  into = λ k u. free-not _ (fresh-free k (u .0)) (u .1);
   from = λ x m. absurd (List·Memᴰ·not-nil m);
 }
 
@@ -91,40 +83,35 @@ listed-fresh = record {
 
 pub listed-written : (es : List Entry) (bytes : List ℕ) (l : List Breakpoint) → length es ≡ 8 → Listed es l → Listed (withPlains es bytes) l
 unfolding isFree dressed
-listed-written es bytes l size v = record {
-  into = λ k u. Memᴰ·cast (same k (u .0)) (v .into k (u .0, sym (free k (u .0)) ∙ u .1));
-  from = λ x m. let h = v .from x m in
-      let k = h .place in
-      let below = h .used .0 in
-      record { place = k; used = (below, free k below ∙ h .used .1); same = same k below ∙ h .same };
-}
-  where
-    free : (k : ℕ) → k < 8 → isFree (entryAt (withPlains es bytes) k) ≡ isFree (entryAt es k)
-    free k h = ap isFree (with-at es bytes k (omega arith))
-
-    same : (k : ℕ) → k < 8 → dressed (entryAt (withPlains es bytes) k) ≡ dressed (entryAt es k)
-    same k h = ap dressed (with-at es bytes k (omega arith))
+listed-written es bytes l size v =
+    let free = with-same es size bytes isFree (λ e p. refl) in
+    let same = with-same es size bytes dressed (λ e p. refl) in
+    record {
+      into = λ k u. Memᴰ·cast (same k (u .0)) (v .into k (u .0, sym (free k (u .0)) ∙ u .1));
+      from = λ x m.
+          let h = v .from x m in
+          let below = h .used .0 in
+          record { place = h .place; used = (below, free (h .place) below ∙ h .used .1); same = same (h .place) below ∙ h .same };
+    }
 
 -- ---- a breakpoint in an entry that was free
 
 pub listed-more : (es : List Entry) (l : List Breakpoint) (k : ℕ) (e : Entry) → length es ≡ 8 → k < 8
     → isFree (entryAt es k) ≡ true → isFree e ≡ false → Listed es l → Listed (set es k e) (dressed e ∷ l)
 listed-more es l k e size below free used v = record {
-  into = λ j u. on-same j k
-      (λ q. List·Memᴰ·head (ap dressed (ap (entryAt (set es k e)) q ∙ here)))
-      (λ n. let o = entry-away es k e j n in
-      List·Memᴰ·tail (Memᴰ·cast (ap dressed o) (v .into j (u .0, sym (ap isFree o) ∙ u .1))));
+  into = λ j u. at-set es k e noEntry j (λ q. omega arith) (λ x. isFree x ≡ false → List·Memᴰ (dressed x) (dressed e ∷ l))
+      (λ q y. List·Memᴰ·head refl) (λ n y. List·Memᴰ·tail (v .into j (u .0, y))) (u .1);
   from = λ x m. ⊎-elim
       (λ q. record { place = k; used = (below, ap isFree here ∙ used); same = ap dressed here ∙ sym q })
       (λ n. let h = v .from x n in
       held-still es (set es k e) x h
-      (entry-away es k e (h .place)
+      (getD-set-other es k (h .place) e noEntry
       (λ q. free-not (entryAt es k) free (sym (ap (λ (j : ℕ). isFree (entryAt es j)) q) ∙ h .used .1))))
       (List·Memᴰ·cases-cons m);
 }
   where
     here : entryAt (set es k e) k ≡ e
-    here = entry-here es k e (omega arith)
+    here = getD-set-same es k e noEntry (omega arith)
 
 -- ---- breakpoints taken out of both by a test
 
@@ -142,20 +129,15 @@ module _ (f : Breakpoint → Bool) (es : List Entry) (l : List Breakpoint) where
       → Listed es l → Listed (set es k freshEntry) (without f l)
   unfolding isFree
   listed-less k size used holds only v = record {
-    into = λ j u. on-same j k
-        (λ q. free-not freshEntry refl (sym (ap isFree (ap (entryAt (set es k freshEntry)) q ∙ here)) ∙ u .1))
-        (λ n. let o = entry-away es k freshEntry j n in
-        let w : UsedIn es j = (u .0, sym (ap isFree o) ∙ u .1) in
-        Memᴰ·cast (ap dressed o) (member-left f l _ (v .into j w) (fails j w n)));
+    into = λ j u. at-set es k freshEntry noEntry j (λ q. omega (arith, used .0))
+        (λ x. isFree x ≡ false → List·Memᴰ (dressed x) (without f l)) (λ q y. free-not freshEntry refl y)
+        (λ n y. member-left f l _ (v .into j (u .0, y)) (fails j (u .0, y) n)) (u .1);
     from = λ x m. let r = left-member f l x m in
         let h = v .from x (r .0) in
         held-still es (set es k freshEntry) x h
-        (entry-away es k freshEntry (h .place)
+        (getD-set-other es k (h .place) freshEntry noEntry
         (λ q. true-or-false (sym (r .1) ∙ ap f (sym (h .same)) ∙ ap (λ (j : ℕ). f (dressed (entryAt es j))) q ∙ holds)));
   }
     where
-      here : entryAt (set es k freshEntry) k ≡ freshEntry
-      here = entry-here es k freshEntry (omega (arith, used .0))
-
       fails : (j : ℕ) → UsedIn es j → (j ≡ k → ⊥) → f (dressed (entryAt es j)) ≡ false
       fails j u n = on-test (f (dressed (entryAt es j))) (λ e. absurd (n (only j u e))) (λ e. e)

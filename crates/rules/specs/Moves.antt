@@ -1,6 +1,6 @@
 -- The changes that steps make, one by one: the record and the book move together.
 use mathlib.Core.Path.{_≡_, refl, sym, ap, _∙_}
-use mathlib.Core.Bool.{Bool, true, false}
+use mathlib.Core.Bool.{true, false}
 use mathlib.Core.List.{List, []}
 use mathlib.Core.Option.{Option, none}
 use Prim.Native.Nat.{ℕ, _-_, _<_}
@@ -11,7 +11,10 @@ use Rattle.common.specs.Keys.{among}
 use Rattle.common.proofs.Same.{true-or-false}
 use Rattle.fit.specs.Fit.{processAt, entryAt}
 use Rattle.memory.specs.Head.{Head}
-use Rattle.memory.specs.Overlay.{covered}
+use Rattle.memory.specs.Overlay.{covered, plainOf}
+use Rattle.fit.specs.Arrays.{sitesOf, plainsOf}
+use Rattle.target.specs.declared.Table.{Table}
+use borrow.Author.Tests.{eq-eqb, ne-eqb, eqb-true}
 use Rattle.memory.specs.Write.{overwritten}
 use Rattle.memory_laws.specs.Laws.{plain-set}
 use Rattle.target.specs.Free.{isFree, firstFree}
@@ -20,20 +23,20 @@ use Rattle.target.specs.declared.Draft.{Draft}
 use Rattle.target.specs.declared.Process.{Process}
 use Rattle.target.specs.declared.Target.{Target}
 use Rattle.rules.specs.Outcome.{world, replied}
-use Rattle.rules.specs.Record.{withTable, withEntries, withProcesses, withCurrent, setState}
+use Rattle.rules.specs.Record.{withTable, withEntries, withProcesses, withCurrent, indexOf, setState, isStopped}
 use Rattle.rules.specs.Record.{withDraft as withHand}
 use Rattle.rules.specs.Breakpoint.{sites, plains, madeEntry, planted, removed}
 use Rattle.rules.specs.Request.{windowWritten}
 use Rattle.rules.specs.Event.{restart}
 use Rattle.rules.specs.Book.{Breakpoint, Pending, Book, Setup, withPlain, withDraft, withBreakpoints, withStopped, without, sets}
-use Rattle.rules.specs.Facts.{Good, Used}
+use Rattle.rules.specs.Facts.{Differ, Used, Good}
 use Rattle.rules.specs.FitFacts.{facts-of}
 use Rattle.rules.specs.Found.{free-found}
 use Rattle.rules.specs.KeptDraft.{hand-of}
-use Rattle.rules.specs.Agree.{dressed, pendingOf, Drafted, pidsOf, Halted, Follows}
+use Rattle.rules.specs.Agree.{dressed, Listed, pendingOf, Drafted, pidsOf, Halted, Follows}
 use Rattle.rules.specs.Listed.{listed-fresh, listed-written, listed-more, listed-all, listed-less}
 use Rattle.rules.specs.Laid.{plain-removed, plain-planted, plain-overwritten, plain-fresh}
-use Rattle.rules.specs.Halted.{pids-stored, halted-stored, pids-restarted, halted-restarted}
+use Rattle.rules.specs.Halted.{listed, listed-pid, pids-stored, halted-stored, pids-restarted, halted-restarted}
 
 -- with nothing in hand nothing is asked of the book's draft
 pub drafted-none : (o : Option Pending) → Drafted closedDraft o
@@ -56,22 +59,29 @@ module _ (s : Setup) (b : Book) (t : Target) (mem : List ℕ) (v : Follows s b t
     stopped = v .stopped;
   }
 
-  -- another condition in hand
-  pub move-draft : (d : Draft) (o : Option Pending) → Drafted d o → Follows s (withDraft b o) (withHand t d) mem
-  unfolding withDraft withHand withTable
-  move-draft d o h = record {
+  -- another table and memory, with what the book then has
+  move-table : (u : Table) (mem′ plain : List ℕ) (l : List Breakpoint) (o : Option Pending)
+      → plainOf 2 (sitesOf (t .base) (u .entries)) (plainsOf (u .entries)) mem′ ≡ plain → Listed (u .entries) l → Drafted (u .draft) o
+      → Follows s (record { plain = plain; draft = o; breakpoints = l; stopped = b .stopped }) (withTable t u) mem′
+  unfolding withTable
+  move-table u mem′ plain l o p q h = record {
     base = v .base;
     size = v .size;
     count = v .count;
     pids = v .pids;
-    plain = v .plain;
-    breakpoints = v .breakpoints;
+    plain = p;
+    breakpoints = q;
     draft = h;
     stopped = v .stopped;
   }
 
+  -- another condition in hand
+  pub move-draft : (d : Draft) (o : Option Pending) → Drafted d o → Follows s (withDraft b o) (withHand t d) mem
+  unfolding withDraft withHand
+  move-draft d o h = move-table _ mem _ _ o (v .plain) (v .breakpoints) h
+
   -- other processes, with the same pids
-  pub move-processes : (ps : List Process) (l : List ℕ) → pidsOf ps ≡ pidsOf (t .processes) → Halted (t .count) ps l
+  move-processes : (ps : List Process) (l : List ℕ) → pidsOf ps ≡ pidsOf (t .processes) → Halted (t .count) ps l
       → Follows s (withStopped b l) (withProcesses t ps) mem
   unfolding withStopped withProcesses
   move-processes ps l same h = record {
@@ -86,7 +96,7 @@ module _ (s : Setup) (b : Book) (t : Target) (mem : List ℕ) (v : Follows s b t
   }
 
   -- one process set
-  pub move-state : (i state wanted : ℕ) (l : List ℕ) → i < length (t .processes) → eqb state 8 ≡ among l (processAt (t .processes) i .pid)
+  move-state : (i state wanted : ℕ) (l : List ℕ) → i < length (t .processes) → eqb state 8 ≡ among l (processAt (t .processes) i .pid)
       → ((j : ℕ) → j < t .count → (j ≡ i → ⊥)
       → among l (processAt (t .processes) j .pid) ≡ among (b .stopped) (processAt (t .processes) j .pid))
       → Follows s (withStopped b l) (setState t i state wanted) mem
@@ -95,79 +105,73 @@ module _ (s : Setup) (b : Book) (t : Target) (mem : List ℕ) (v : Follows s b t
       move-processes _ l (pids-stored (t .processes) i state wanted)
       (halted-stored (t .count) (t .processes) (b .stopped) l i state wanted below now rest (v .stopped))
 
+  -- one listed process set, by its pid
+  module _ {head : Head} (good : Good head t mem) (pid : ℕ) (h : indexOf t pid < t .count) where
+    -- it is Stopped where the book has its pid
+    pub its-state : isStopped (processAt (t .processes) (indexOf t pid)) ≡ among (b .stopped) pid
+    its-state = v .stopped _ h ∙ ap (among (b .stopped)) (listed-pid t mem good pid h)
+
+    -- the book has it as it is now, and every other as before
+    pub move-named : (state wanted : ℕ) (l : List ℕ) → eqb state 8 ≡ among l pid
+        → ((y : ℕ) → (y ≡ pid → ⊥) → among l y ≡ among (b .stopped) y) → Follows s (withStopped b l) (setState t (indexOf t pid) state wanted) mem
+    move-named state wanted l now rest =
+        let q = listed-pid t mem good pid h in
+        move-state _ state wanted l (listed t mem good _ h) (now ∙ ap (among l) (sym q))
+        (λ j g n. rest _ (λ p. n (facts-of t mem good .pidsDiffer j _ g h (p ∙ sym q))))
+
+    -- it is Stopped as it was, and the book stays
+    pub move-kept : (state wanted : ℕ) → eqb state 8 ≡ isStopped (processAt (t .processes) (indexOf t pid))
+        → Follows s b (setState t (indexOf t pid) state wanted) mem
+    unfolding withStopped
+    move-kept state wanted e = move-named state wanted (b .stopped) (e ∙ its-state) (λ y n. refl)
+
   -- ---- the table and memory
 
   module _ {head : Head} (good : Good head t mem) (regs : List ℕ) where
-    -- a breakpoint removed: the one for which the test holds
-    pub move-removed : (f : Breakpoint → Bool) (k : ℕ) → Used t k → f (dressed (entryAt (t .table .entries) k)) ≡ true
-        → ((j : ℕ) → Used t j → f (dressed (entryAt (t .table .entries) j)) ≡ true → j ≡ k)
-        → Follows s (withBreakpoints b (without f (b .breakpoints)))
+    -- the breakpoint removed that has a key
+    pub move-removed : (key : Breakpoint → ℕ) (x k : ℕ) → Used t k → key (dressed (entryAt (t .table .entries) k)) ≡ x
+        → Differ (λ e. key (dressed e)) (t .table .entries)
+        → Follows s (withBreakpoints b (without (λ y. eqb (key y) x) (b .breakpoints)))
         (removed (world t mem regs) k .target) (removed (world t mem regs) k .mem)
-    unfolding removed withEntries withTable withBreakpoints
-    move-removed f k used holds only = record {
-      base = v .base;
-      size = v .size;
-      count = v .count;
-      pids = v .pids;
-      plain = plain-removed t mem good k used ∙ v .plain;
-      breakpoints = listed-less f (t .table .entries) (b .breakpoints) k (good .shaped .entries) used holds only (v .breakpoints);
-      draft = v .draft;
-      stopped = v .stopped;
-    }
+    unfolding removed withEntries withBreakpoints
+    move-removed key x k used here differ =
+        move-table _ _ _ _ _ (plain-removed t mem good k used ∙ v .plain)
+        (listed-less (λ y. eqb (key y) x) (t .table .entries) (b .breakpoints) k (good .shaped .entries) used (eq-eqb _ _ here)
+        (λ j u q. differ j k u used (eqb-true _ _ q ∙ sym here)) (v .breakpoints))
+        (v .draft)
 
-    -- none removed: the test holds for none
-    pub move-none : (f : Breakpoint → Bool) → ((j : ℕ) → Used t j → f (dressed (entryAt (t .table .entries) j)) ≡ false)
-        → Follows s (withBreakpoints b (without f (b .breakpoints))) t mem
-    unfolding withBreakpoints
-    move-none f fails = record {
-      base = v .base;
-      size = v .size;
-      count = v .count;
-      pids = v .pids;
-      plain = v .plain;
-      breakpoints = listed-all f (t .table .entries) (b .breakpoints) fails (v .breakpoints);
-      draft = v .draft;
-      stopped = v .stopped;
-    }
+    -- none removed: none has it
+    pub move-none : (key : Breakpoint → ℕ) (x : ℕ) → ((j : ℕ) → Used t j → key (dressed (entryAt (t .table .entries) j)) ≡ x → ⊥)
+        → Follows s (withBreakpoints b (without (λ y. eqb (key y) x) (b .breakpoints))) t mem
+    unfolding withTable withBreakpoints
+    move-none key x nowhere =
+        move-table (t .table) mem _ _ _ (v .plain)
+        (listed-all _ (t .table .entries) (b .breakpoints) (λ j u. ne-eqb _ _ (nowhere j u)) (v .breakpoints)) (v .draft)
 
     -- the condition in hand set as a breakpoint
     pub move-planted : (site : ℕ) → eqb (t .table .draft .active) 0 ≡ false
         → Follows s (withBreakpoints (withDraft b none) (sets (b .draft) site (b .breakpoints)))
         (planted head (world t mem regs) site .target) (planted head (world t mem regs) site .mem)
-    unfolding planted madeEntry withTable withBreakpoints withDraft sets pendingOf dressed isFree
+    unfolding planted madeEntry withBreakpoints withDraft sets pendingOf dressed isFree
     move-planted site e =
         let es = t .table .entries in
         let k = firstFree es in
         let below : k < 8 = hand-of (t .table .draft) es (facts-of t mem good .draft) e .room in
         let free : isFree (entryAt es k) ≡ true = free-found es (omega (arith, good .shaped .entries)) in
-        record {
-          base = v .base;
-          size = v .size;
-          count = v .count;
-          pids = v .pids;
-          plain = plain-planted t mem good k (madeEntry (world t mem regs) site) below free refl refl ∙ v .plain;
-          breakpoints = rw (v .draft e)
-              (listed-more es (b .breakpoints) k (madeEntry (world t mem regs) site) (good .shaped .entries) below free refl
-              (v .breakpoints));
-          draft = drafted-none none;
-          stopped = v .stopped;
-        }
+        move-table _ _ _ _ _ (plain-planted t mem good k (madeEntry (world t mem regs) site) below free refl refl ∙ v .plain)
+        (rw (v .draft e)
+        (listed-more es (b .breakpoints) k (madeEntry (world t mem regs) site) (good .shaped .entries) below free refl (v .breakpoints)))
+        (drafted-none none)
 
     -- bytes written
     pub move-written : (addr : ℕ) (bytes : List ℕ)
         → Follows s (withPlain b (overwritten (b .plain) (addr - t .base) bytes))
         (windowWritten (world t mem regs) addr bytes .target) (windowWritten (world t mem regs) addr bytes .mem)
-    unfolding windowWritten withEntries withTable withPlain
-    move-written addr bytes = record {
-      base = v .base;
-      size = v .size;
-      count = v .count;
-      pids = v .pids;
-      plain = plain-overwritten t mem good (addr - t .base) bytes ∙ ap (λ l. overwritten l (addr - t .base) bytes) (v .plain);
-      breakpoints = listed-written (t .table .entries) _ (b .breakpoints) (good .shaped .entries) (v .breakpoints);
-      draft = v .draft;
-      stopped = v .stopped;
-    }
+    unfolding windowWritten withEntries withPlain
+    move-written addr bytes =
+        move-table _ _ _ _ _
+        (plain-overwritten t mem good (addr - t .base) bytes ∙ ap (λ l. overwritten l (addr - t .base) bytes) (v .plain))
+        (listed-written (t .table .entries) _ (b .breakpoints) (good .shaped .entries) (v .breakpoints)) (v .draft)
 
   -- a restart
   pub move-restart : (regs : List ℕ)
@@ -187,14 +191,7 @@ module _ (s : Setup) (b : Book) (t : Target) (mem : List ℕ) (v : Follows s b t
 
   -- an outside change of a byte under no trap
   pub move-change : (i byte : ℕ) → covered 2 (sites t) i ≡ false → Follows s (withPlain b (set (b .plain) i byte)) t (set mem i byte)
-  unfolding withPlain
-  move-change i byte bare = record {
-    base = v .base;
-    size = v .size;
-    count = v .count;
-    pids = v .pids;
-    plain = plain-set 2 (sites t) (plains t) mem i byte bare ∙ ap (λ l. set l i byte) (v .plain);
-    breakpoints = v .breakpoints;
-    draft = v .draft;
-    stopped = v .stopped;
-  }
+  unfolding withTable withPlain
+  move-change i byte bare =
+      move-table (t .table) _ _ _ _ (plain-set 2 (sites t) (plains t) mem i byte bare ∙ ap (λ l. set l i byte) (v .plain))
+      (v .breakpoints) (v .draft)

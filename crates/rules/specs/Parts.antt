@@ -5,20 +5,23 @@ use mathlib.Core.List.{List}
 use Prim.Native.Nat.{ℕ, _+_, _-_, _%_, _<_}
 use native.Mathlib.Omega.{arith}
 use lib.ListN.{length, getD}
+use Rattle.common.proofs.Same.{parts}
 use Rattle.fit.specs.Arrays.{sitesOf}
 use Rattle.fit.specs.Fit.{windowFit, processesFit, marksFit, currentFit, draftFit, entryAt}
 use Rattle.memory.specs.Head.{Head, trapBytes}
 use Rattle.memory.specs.Overlay.{siteOver}
 use Rattle.memory.proofs.Slots.{covered-by}
 use Rattle.memory_laws.specs.Planted.{Planted, planted-at}
+use Rattle.target.specs.declared.Draft.{Draft}
+use Rattle.target.specs.declared.Entry.{Entry}
 use Rattle.target.specs.declared.Process.{Process}
 use Rattle.target.specs.declared.Table.{Table}
 use Rattle.target.specs.declared.Target.{Target}
 use Rattle.rules.specs.Breakpoint.{sites}
 use Rattle.rules.specs.Facts.{ShapedEntry, Used, UsedFacts, Good}
 use Rattle.rules.specs.Record.{withTable, withProcesses, withCurrent}
-use Rattle.rules.specs.Slots.{length-sites, site-at, site-used}
-use Rattle.rules.specs.FitFacts.{parts, tests-of, facts-by, entries-fit, fit-by, planted-of}
+use Rattle.rules.specs.Slots.{length-sites, slot-used}
+use Rattle.rules.specs.FitFacts.{tests-of, facts-by, entries-fit, fit-by, planted-of}
 use Rattle.rules.specs.Rows.{Rows}
 
 -- n processes, and the one that is current
@@ -28,13 +31,17 @@ pub record ProcessParts (ps : List Process) (n selected pid : ℕ) : Type 0 wher
   pub marks : marksFit ps n ≡ true
   pub current : currentFit selected pid ps n ≡ true
 
+-- a condition in hand, beside the entries
+pub record DraftParts (d : Draft) (es : List Entry) : Type 0 where
+  pub elements : length (d .elements) ≡ 16
+  pub id : d .id < 256
+  pub fit : draftFit d es ≡ true
+
 -- a table over memory, which is a window of n bytes at base
 pub record TableParts (head : Head) (base n : ℕ) (u : Table) (mem : List ℕ) : Type 0 where
   pub eight : length (u .entries) ≡ 8
   pub entry : (k : ℕ) → k < 8 → ShapedEntry (entryAt (u .entries) k)
-  pub draftElements : length (u .draft .elements) ≡ 16
-  pub draftId : u .draft .id < 256
-  pub draft : draftFit (u .draft) (u .entries) ≡ true
+  pub draft : DraftParts (u .draft) (u .entries)
   pub rows : Rows base n (u .entries)
   pub planted : Planted (trapBytes head) (sitesOf base (u .entries)) mem
   pub sized : length mem ≡ n
@@ -57,9 +64,7 @@ module _ {head : Head} (t : Target) (mem : List ℕ) where
         table = record {
           eight = g .shaped .entries;
           entry = g .shaped .entry;
-          draftElements = g .shaped .draftElements;
-          draftId = g .shaped .draftId;
-          draft = c .draft;
+          draft = record { elements = g .shaped .draftElements; id = g .shaped .draftId; fit = c .draft };
           rows = record {
             row = λ k u. let x = f .used k u in
                 record { one = x .one; even = x .even; low = x .low; high = rw (g .sized) at (x .high); formed = x .formed };
@@ -81,7 +86,7 @@ module _ {head : Head} (t : Target) (mem : List ℕ) where
         let s = entryAt (t .table .entries) k .site - t .base in
         let b : t .base % 4 ≡ 0 = search parts depth 8 in
         let l : k < length (t .table .entries) = omega (arith, c .table .eight) in
-        let at : getD (sites t) k 0 ≡ s = site-at (t .base) (t .table .entries) k l ∙ site-used (t .base) _ u in
+        let at : getD (sites t) k 0 ≡ s = slot-used (t .base) (t .table .entries) k l u in
         let d : k < length (sites t) = omega (arith, length-sites (t .base) (t .table .entries)) in
         let z : s % 2 ≡ 0 = omega (arith, x .even, x .low) in
         let o : (s + 1) % 2 ≡ 1 = omega arith in
@@ -106,8 +111,8 @@ module _ {head : Head} (t : Target) (mem : List ℕ) where
           shaped = record {
             entries = u .eight;
             entry = u .entry;
-            draftElements = u .draftElements;
-            draftId = u .draftId;
+            draftElements = u .draft .elements;
+            draftId = u .draft .id;
             processes = p .four;
           };
           fit = fit-by t mem (record {
@@ -115,7 +120,7 @@ module _ {head : Head} (t : Target) (mem : List ℕ) where
             processes = p .pids;
             marks = p .marks;
             current = p .current;
-            draft = u .draft;
+            draft = u .draft .fit;
             entries = entries-fit head t mem used-by (u .rows .ids) (u .rows .sites);
           });
           sized = u .sized;

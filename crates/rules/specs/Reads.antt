@@ -6,90 +6,67 @@ use mathlib.Core.Logic.{⊎-elim}
 use Prim.Native.Nat.{ℕ, _+_, _-_, _%_, _≤_, _<_}
 use native.Mathlib.Nat.{add-zero}
 use native.Mathlib.Omega.{arith}
-use borrow.Author.Tests.{ltb-true, leb-true, leb-false, eqb-true, eqb-false, ne-eqb, le-leb, lt-leb}
-use lib.Dec.{leb, ltb, eqb}
+use borrow.Author.Tests.{leb-true, leb-false, eqb-true, eqb-false, le-leb, lt-leb}
+use lib.Dec.{leb, eqb}
 use lib.ListN.{length, getD, take}
 use Rattle.common.specs.Tab.{tab}
 use Rattle.common.proofs.Same.{true-or-false, and-both}
 use Rattle.condition.specs.Evaluate.{evalFrom, evaluateOf, fetchOf}
 use Rattle.condition.specs.declared.Fetched.{Fetched}
 use Rattle.condition.specs.declared.Fetched.the-variants.{Word, Outside}
-use Rattle.fit.specs.Fit.{processAt, entryAt}
+use Rattle.fit.specs.Fit.{entryAt}
 use Rattle.memory.specs.Head.{Head}
 use Rattle.memory.specs.Overlay.{siteOver, slotOf, plainAt, plainOf}
 use Rattle.memory.specs.Place.{placeOf}
 use Rattle.memory.specs.Write.{bytesAt, readOf}
-use Rattle.memory.specs.declared.Place.{Place}
-use Rattle.memory.specs.declared.Place.the-variants.{Registers, Window, Nowhere}
+use Rattle.memory.specs.declared.Place.the-variants.{Window}
 use Rattle.common.proofs.Cases.{on-test}
 use Rattle.memory.proofs.Bytes.{plain-at, plain-under}
 use Rattle.memory_laws.specs.Laws.{read-plain}
 use Rattle.memory.proofs.Site.{site-place, site-same}
 use Rattle.memory.proofs.Slots.{covered-by, slot-only as slot-of}
-use Rattle.request.specs.Request.{parseOf}
 use Rattle.request.specs.declared.Parsed.{Parsed}
-use Rattle.request.specs.declared.Parsed.the-variants.{Request, Refused, NotTen}
 use Rattle.target.specs.declared.Entry.{Entry}
 use Rattle.target.specs.declared.Target.{Target}
-use Rattle.wire.specs.Message.{bytesOf}
+use Rattle.wire.specs.Message.{bytesOf, typeOf}
 use Rattle.wire.specs.declared.Message.{Message}
-use Rattle.wire.specs.declared.Message.the-variants.{Tmget, Tmput, Tproc, Tstatus, Trnote, Tstop, Tstart, Tcondbreak, Rerr, Rmget, Rmput}
-use Rattle.wire.specs.declared.Message.the-variants.{Rproc, Rstatus, Rrnote, Rstop, Rstart, Rcondbreak}
-use Rattle.rules.specs.declared.Answer.the-variants.{Stop, Pass}
-use Rattle.rules.specs.Outcome.{World, world, Outcome, answered, refused, replied}
-use Rattle.rules.specs.Record.{indexOf, isStopped, pcOf}
+use Rattle.wire.specs.declared.Message.the-variants.{Rmget}
+use Rattle.rules.specs.Outcome.{World, world, Outcome, answered, refused, replied, error}
+use Rattle.rules.specs.Record.{pcOf}
 use Rattle.rules.specs.Breakpoint.{sites, plains, breakpointAt}
-use Rattle.rules.specs.Request.{data9Of, gotFrom, mget, serve, requestBy}
-use Rattle.rules.specs.Event.{holds, trapped, trap, restart}
-use Rattle.rules.specs.Step.{Step, request, trapEvent, scheduleEvent, stateEvent, restartStep, stepOf, requestOf, trapOf, restartOf}
-use Rattle.rules.specs.Book.{Breakpoint, Book, Setup, intoWindow, inWindow, isAccepted, ReadsMessage, ReadsRequest, fetchBy}
-use Rattle.rules.specs.Book.{answerOf, answerAmong, trapBy, RightStep}
+use Rattle.rules.specs.Request.{data9Of}
+use Rattle.rules.specs.Event.{holds, restart}
+use Rattle.rules.specs.Step.{Step, request, trapEvent, scheduleEvent, stateEvent, restartStep, stepOf}
+use Rattle.rules.specs.Book.{Breakpoint, Book, Setup, inWindow, isAccepted, ReadsMessage, ReadsRequest, fetchBy, answerOf}
+use Rattle.rules.specs.Book.{answerAmong, trapBy, RightStep}
 use Rattle.rules.specs.Facts.{Used}
 use Rattle.rules.specs.FitFacts.{facts-of, slot-used, slot-multiple, slot-only, slot-byte, eight-sites}
-use Rattle.rules.specs.Found.{at-used, at-site}
-use Rattle.rules.specs.KeptWorld.{choose}
+use Rattle.rules.specs.Found.{used-at, at-site}
 use Rattle.rules.specs.Agree.{dressed, Agree}
-use Rattle.rules.specs.Laid.{same-place}
+use Rattle.rules.specs.Laid.{in-window}
 use Rattle.memory.proofs.Parts.{within-window}
-use Rattle.rules.specs.Fed.{on-checked, on-listed}
-
-into-window : (p : Place) → intoWindow p ≡ true → p ≡ Window
-unfolding intoWindow
-into-window Registers e = true-or-false e
-into-window Window e = refl
-into-window Nowhere e = true-or-false e
-
--- one test, and one pair of bytes
-same-answer : (c d : Bool) (id p q p′ q′ : ℕ) (x y : World) → c ≡ d → p ≡ p′ → q ≡ q′
-    → cond c (answered (Stop id) x) (answered (Pass p q) y) .answer ≡ cond d (Stop id) (Pass p′ q′)
-unfolding answered
-same-answer true true id p q p′ q′ x y e f g = refl
-same-answer true false id p q p′ q′ x y e f g = true-or-false (sym e)
-same-answer false true id p q p′ q′ x y e f g = true-or-false e
-same-answer false false id p q p′ q′ x y e f g = rw (f, g)
+use Rattle.rules.specs.declared.Answer.{Answer}
+use Rattle.wire.specs.declared.Data9.{Data9}
+use Rattle.rules.specs.Outcomes.{Left, Served, serving, failing, Heard, hit, regsOf, bufferOf, by-step, got, put, aside, current}
+use Rattle.rules.specs.Outcomes.{told, noted, halted, marked, started, cleared, begins, plants, removes, adds, caught, released}
+use Rattle.rules.specs.Outcomes.{yielded, ran, became}
 
 module _ {head : Head} (s : Setup) (b : Book) (t : Target) (mem : List ℕ) (a : Agree head s b t mem) where
   -- ---- a Tmget of the window
 
-  module _ (regs : List ℕ) where
-    abbrev w : World
-    w = world t mem regs
-
-    reads-mget : (addr n : ℕ) → inWindow s addr n ≡ true
-        → mget w addr n .reply ≡ bytesOf (Rmget (data9Of (bytesAt (b .plain) (addr - s .base) n 9)))
-    unfolding inWindow mget gotFrom replied
-    reads-mget addr n e =
-        let p = and-both _ _ e in
-        let some : 0 < n = ltb-true 0 n (p .0) in
-        let place : placeOf (t .base) (t .size) addr n ≡ Window = sym (same-place s b t mem a addr n) ∙ into-window _ (p .1) in
-        let end = within-window (t .base) (t .size) addr n place in
-        rw (
-          ne-eqb n 0 (omega arith),
-          place,
-          ap (λ (k : ℕ). addr - k) (sym (a .follows .base)),
-          ← (a .follows .plain),
-          read-plain 2 (sites t) (plains t) mem (addr - t .base) n 9 (omega (arith, end .0, end .1, a .good .sized)),
-        )
+  reads-got : (addr n : ℕ) (d : Data9)
+      → (0 < n → placeOf (t .base) (t .size) addr n ≡ Window
+      → d ≡ data9Of (readOf 2 (sites t) (plains t) mem (addr - t .base) n 9))
+      → inWindow s addr n ≡ true → bytesOf (Rmget d) ≡ bytesOf (Rmget (data9Of (bytesAt (b .plain) (addr - s .base) n 9)))
+  reads-got addr n d same e =
+      let i = in-window s b t mem a addr n e in
+      let end = within-window (t .base) (t .size) addr n (i .1) in
+      rw (
+        same (i .0) (i .1),
+        ap (λ (k : ℕ). addr - k) (sym (a .follows .base)),
+        ← (a .follows .plain),
+        read-plain 2 (sites t) (plains t) mem (addr - t .base) n 9 (omega (arith, end .0, end .1, a .good .sized)),
+      )
 
   -- ---- what * reads
 
@@ -163,88 +140,80 @@ module _ {head : Head} (s : Setup) (b : Book) (t : Target) (mem : List ℕ) (a :
       (⊎-elim (λ q. absurd (eqb-false _ _ e (ap (λ (z : Breakpoint). z .site) (sym q) ∙ at))) (λ n. n) (List·Memᴰ·cases-cons m))
       (λ z n. only z (List·Memᴰ·tail n))))
 
-  -- the entry that a trap event finds answers as the book
-  answers-entry : (regs : List ℕ) (i pid : ℕ) (block : List ℕ) (k : ℕ) → Used t k
-      → trapped head (world t mem regs) i pid block (entryAt (t .table .entries) k) .answer
-      ≡ answerOf head s b pid (dressed (entryAt (t .table .entries) k))
-  unfolding trapped holds evaluateOf answerOf dressed
-  answers-entry regs i pid block k u =
-      let e : Entry = entryAt (t .table .entries) k in
-      same-answer _ _ (e .id) _ _ _ _ _ _
-      (ap (λ (read : ℕ → Fetched). evalFrom read pid (take (e .count) (e .elements)) (1 ∷ [])) reads-fetch)
-      (reads-pass k 0 u (omega arith) ∙ rw add-zero) (reads-pass k 1 u (omega arith))
-
-  -- which is what the book answers at its site
-  answers-found : (regs : List ℕ) (i pid : ℕ) (block : List ℕ) (pc : ℕ)
-      → breakpointAt (t .table .entries) pc < length (t .table .entries)
-      → trapped head (world t mem regs) i pid block (entryAt (t .table .entries) (breakpointAt (t .table .entries) pc)) .answer
-      ≡ answerAmong head s b pid pc (b .breakpoints)
+  -- the entry at the address is the one breakpoint there
+  answers-found : (pid pc : ℕ) → breakpointAt (t .table .entries) pc < length (t .table .entries)
+      → answerAmong head s b pid pc (b .breakpoints)
+      ≡ answerOf head s b pid (dressed (entryAt (t .table .entries) (breakpointAt (t .table .entries) pc)))
   unfolding dressed
-  answers-found regs i pid block pc h =
+  answers-found pid pc h =
       let es = t .table .entries in
       let k = breakpointAt es pc in
-      let used : Used t k = (omega (arith, a .good .shaped .entries), at-used es pc h) in
+      let used : Used t k = used-at es pc (a .good .shaped .entries) h in
       let here : entryAt es k .site ≡ pc = at-site es pc h in
-      answers-entry regs i pid block k used
-      ∙ sym (answer-only pid pc (dressed (entryAt es k)) here (b .breakpoints) (a .follows .breakpoints .into k used)
+      answer-only pid pc (dressed (entryAt es k)) here (b .breakpoints) (a .follows .breakpoints .into k used)
       (λ y m q. let f = a .follows .breakpoints .from y m in
       let site : entryAt es (f .place) .site ≡ entryAt es k .site = ap (λ (z : Breakpoint). z .site) (f .same) ∙ q ∙ sym here in
       let one : f .place ≡ k = facts-of t mem (a .good) .sitesDiffer (f .place) k (f .used) used site in
-      sym (f .same) ∙ ap (λ (j : ℕ). dressed (entryAt es j)) one))
+      sym (f .same) ∙ ap (λ (j : ℕ). dressed (entryAt es j)) one)
 
-  -- a trap event that is accepted answers by the book
-  reads-trap : (regs : List ℕ) (pid : ℕ) (block : List ℕ) → trap head (world t mem regs) pid block .number ≡ 0
-      → trap head (world t mem regs) pid block .answer ≡ trapBy head s b pid block
-  unfolding trap refused trapBy
-  reads-trap regs pid block =
-      let es = t .table .entries in
-      let pc = pcOf block in
-      let P : Outcome → Type 0 = λ o. o .number ≡ 0 → o .answer ≡ answerAmong head s b pid pc (b .breakpoints) in
-      on-listed P (world t mem regs) pid _
-      (λ h. choose P (isStopped (processAt (t .processes) (indexOf t pid))) (λ e z. absurd (omega arith))
-      (λ e. choose P (ltb (breakpointAt es pc) (length es))
-      (λ f z. answers-found regs (indexOf t pid) pid block pc (ltb-true _ _ f)) (λ f z. absurd (omega arith))))
-      (λ z. absurd (omega arith))
+  -- its condition has the truth that it has over the book
+  reads-holds : (regs : List ℕ) (pid : ℕ) (e : Entry)
+      → evalFrom (fetchBy head s b) pid (take (e .count) (e .elements)) (1 ∷ []) ≡ holds head (world t mem regs) pid e
+  unfolding holds evaluateOf
+  reads-holds regs pid e =
+      sym (ap (λ (read : ℕ → Fetched). evalFrom read pid (take (e .count) (e .elements)) (1 ∷ [])) reads-fetch)
 
   -- ---- every step
 
-  reads-message : (regs : List ℕ) (m : Message) → ReadsMessage s b m (serve head (world t mem regs) m .reply)
-  unfolding ReadsMessage serve
-  reads-message regs (Tmget addr n) = reads-mget regs addr n
-  reads-message regs (Tmput addr n d) = tt
-  reads-message regs (Tproc pid) = tt
-  reads-message regs (Tstatus pid) = tt
-  reads-message regs (Trnote pid) = tt
-  reads-message regs (Tstop pid) = tt
-  reads-message regs (Tstart pid) = tt
-  reads-message regs (Tcondbreak val op) = tt
-  reads-message regs (Rerr r) = tt
-  reads-message regs (Rmget d) = tt
-  reads-message regs Rmput = tt
-  reads-message regs (Rproc addr) = tt
-  reads-message regs (Rstatus x) = tt
-  reads-message regs Rrnote = tt
-  reads-message regs Rstop = tt
-  reads-message regs Rstart = tt
-  reads-message regs Rcondbreak = tt
+  reads-left : {regs : List ℕ} {p : Parsed} {q : Message} {v : World} → Left head (world t mem regs) p q v → ReadsRequest s b p (bytesOf q)
+  unfolding ReadsRequest ReadsMessage
+  reads-left (got d h) = reads-got _ _ d h
+  reads-left (put h p) = tt
+  reads-left (aside r h) = tt
+  reads-left (current h) = tt
+  reads-left (told x) = tt
+  reads-left noted = tt
+  reads-left halted = tt
+  reads-left (marked h e) = tt
+  reads-left (started h e) = tt
+  reads-left (cleared h e) = tt
+  reads-left (begins n x y z) = tt
+  reads-left (plants n x h y z) = tt
+  reads-left (removes n x d y z) = tt
+  reads-left (adds n x d h r) = tt
 
-  reads-request : (regs : List ℕ) (p : Parsed) (bytes reply : List ℕ)
-      → ReadsRequest s b p (requestBy head p (world t mem regs) bytes reply .reply)
-  unfolding ReadsRequest requestBy
-  reads-request regs (Request m) bytes reply = reads-message regs m
-  reads-request regs (Refused r) bytes reply = tt
-  reads-request regs NotTen bytes reply = tt
+  reads-served : {regs : List ℕ} {d : Bool} {p : Parsed} {o : Outcome} → Served (world t mem regs) d (Left head (world t mem regs) p) o
+      → isAccepted (o .number) (o .reply) ≡ true → ReadsRequest s b p (o .reply)
+  unfolding replied error isAccepted bytesOf typeOf
+  reads-served (serving m v h e l) z = reads-left l
+  reads-served (failing r) z = true-or-false z
+
+  -- a trap event that is accepted answers by the book
+  reads-heard : {regs : List ℕ} {e : Step} {x : Answer} {v : World} → Heard head (world t mem regs) e x v
+      → RightStep head s b e (answered x v)
+  unfolding RightStep answered trapBy answerOf dressed
+  reads-heard {regs = regs} (caught {block = block} {pid = pid} h k e) = λ z.
+      sym (answers-found pid (pcOf block) k ∙ rw (reads-holds regs pid (hit (world t mem regs) block) ∙ e))
+  reads-heard {regs = regs} (released {block = block} {pid = pid} k e) = λ z.
+      let u = used-at (t .table .entries) (pcOf block) (a .good .shaped .entries) k in
+      let x : Entry = hit (world t mem regs) block in
+      let first : getD (x .plain) 0 0 ≡ getD (b .plain) (x .site - s .base) 0 = reads-pass _ 0 u (omega arith) ∙ rw add-zero in
+      sym (answers-found pid (pcOf block) k ∙ rw (reads-holds regs pid x ∙ e, ← first, ← (reads-pass _ 1 u (omega arith))))
+  reads-heard (yielded h) = tt
+  reads-heard ran = tt
+  reads-heard (became h e n) = tt
+
+  -- one that is refused by its number answers nothing
+  reads-none : (e : Step) (n : ℕ) → eqb n 0 ≡ false → RightStep head s b e (refused n (world t mem (regsOf e)) (bufferOf e))
+  unfolding RightStep refused isAccepted
+  reads-none (request regs bytes reply) n h = λ z. true-or-false (rw h at z)
+  reads-none (trapEvent regs pid block) n h = λ z. absurd (eqb-false n 0 h z)
+  reads-none (scheduleEvent regs pid block) n h = tt
+  reads-none (stateEvent regs pid value) n h = tt
+  reads-none (restartStep regs reply) n h = λ z. absurd (eqb-false n 0 h z)
 
   pub right-step : (e : Step) → RightStep head s b e (stepOf head t mem e)
-  unfolding RightStep stepOf requestOf trapOf restartOf refused isAccepted restart replied
-  right-step (request regs bytes reply) =
-      on-checked (λ o. isAccepted (o .number) (o .reply) ≡ true → ReadsRequest s b (parseOf bytes) (o .reply))
-      (world t mem regs) head _ reply _ (λ e. true-or-false e) (λ e. true-or-false e) (λ e. reads-request regs (parseOf bytes) bytes reply)
-  right-step (trapEvent regs pid block) =
-      on-checked (λ o. o .number ≡ 0 → o .answer ≡ trapBy head s b pid block) (world t mem regs) head _ [] _
-      (λ e. absurd (omega arith)) (λ e. absurd (omega arith)) (reads-trap regs pid block)
-  right-step (scheduleEvent regs pid block) = tt
-  right-step (stateEvent regs pid value) = tt
-  right-step (restartStep regs reply) =
-      on-checked (λ o. o .number ≡ 0 → o .after .mem ≡ b .plain) (world t mem regs) head _ reply _
-      (λ e. absurd (omega arith)) (λ e. absurd (omega arith)) (λ e. a .follows .plain)
+  unfolding RightStep restart replied
+  right-step =
+      by-step t mem (RightStep head s b) (λ e n h three. reads-none e n h) (λ regs bytes reply o x. reads-served x)
+      (λ e x v h. reads-heard h) (λ regs reply z. a .follows .plain)

@@ -1,44 +1,26 @@
 -- Demand 1, for every record, memory and step: what a refused step leaves as it was. Assumes nothing of the record.
 use mathlib.Core.Path.{_≡_, refl}
-use mathlib.Core.Bool.{Bool, true, false, cond, not, _&&_}
-use mathlib.Core.List.{List, []}
-use Prim.Native.Nat.{ℕ, _*_}
+use mathlib.Core.Bool.{Bool, true, false, cond, not}
+use mathlib.Core.List.{List}
+use Prim.Native.Nat.{ℕ}
 use borrow.Author.Tests.{eqb-false}
 use lib.Dec.{eqb}
-use lib.ListN.{length}
 use Rattle.common.proofs.Same.{true-or-false}
-use Rattle.fit.specs.Fit.{windowFit, processesFit}
 use Rattle.memory.specs.Head.{Head}
 use Rattle.target.specs.Fresh.{closedDraft, emptyTarget}
 use Rattle.target.specs.declared.Draft.{Draft}
 use Rattle.target.specs.declared.Target.{Target}
 use Rattle.wire.specs.Message.{bytesOf}
 use Rattle.rules.specs.declared.Answer.the-variants.{Nothing}
-use Rattle.rules.specs.Outcome.{World, world, Outcome, outcome, refused, answered, replied, error}
+use Rattle.rules.specs.Outcome.{World, world, Outcome, refused, answered, replied, error}
 use Rattle.rules.specs.Record.{withTable, withDraft}
 use Rattle.rules.specs.Condition.{dropped}
 use Rattle.rules.specs.Request.{drops}
-use Rattle.rules.specs.Step.{setupTarget, setupOf, Step, request, trapEvent, scheduleEvent, stateEvent, restartStep, stepOf}
+use Rattle.rules.specs.Step.{setupOf, Step, request, trapEvent, scheduleEvent, stateEvent, restartStep, stepOf}
 use Rattle.rules.specs.Book.{isAccepted}
+use Rattle.rules.specs.Outcomes.{regsOf, bufferOf, SetUp, taken, emptied, set-up}
 use Rattle.rules.specs.Replies.{Handled, accepted, refusing, Checked, held, passed, Reply, Answered}
 use Rattle.rules.specs.Replies.{request-checked, trap-checked, schedule-checked, state-checked, restart-checked, served-reply}
-
--- ---- what is lent with a step
-
-unfoldable pub regsOf : Step → List ℕ
-regsOf (request regs bytes reply) = regs
-regsOf (trapEvent regs pid block) = regs
-regsOf (scheduleEvent regs pid block) = regs
-regsOf (stateEvent regs pid value) = regs
-regsOf (restartStep regs reply) = regs
-
--- the reply buffer, where the step has one
-unfoldable pub bufferOf : Step → List ℕ
-bufferOf (request regs bytes reply) = reply
-bufferOf (trapEvent regs pid block) = []
-bufferOf (scheduleEvent regs pid block) = []
-bufferOf (stateEvent regs pid value) = []
-bufferOf (restartStep regs reply) = reply
 
 -- ---- "A step is refused if its number is not 0 or a request got Rerr"
 
@@ -153,19 +135,12 @@ pub record SetupLeaves (mem regs : List ℕ) (o : Outcome) : Type 0 where
   pub area : o .after .regs ≡ regs
   pub empty : (o .number ≡ 0 → ⊥) → o .after .target ≡ emptyTarget
 
+left-setup : {base size : ℕ} {pids addresses : List ℕ} {count : ℕ} {mem regs : List ℕ} {o : Outcome}
+    → SetUp base size pids addresses count mem regs o → SetupLeaves mem regs o
+unfolding answered
+left-setup (taken e f z) = record { memory = refl; area = refl; empty = λ n. absurd (n refl) }
+left-setup (emptied n h) = record { memory = refl; area = refl; empty = λ z. refl }
+
 pub setup-leaves : (base size : ℕ) (pids addresses : List ℕ) (count : ℕ) (mem regs : List ℕ)
     → SetupLeaves mem regs (setupOf base size pids addresses count mem regs)
-unfolding setupOf answered
-setup-leaves base size pids addresses count mem regs =
-    go (windowFit base size && processesFit (t .processes) count) (eqb (length mem) size && eqb (length regs) (136 * count))
-  where
-    t : Target
-    t = setupTarget base size pids addresses count
-
-    emptied : ℕ → Outcome
-    emptied n = outcome n Nothing (world emptyTarget mem regs) []
-
-    go : (a b : Bool) → SetupLeaves mem regs (cond a (cond b (answered Nothing (world t mem regs)) (emptied 2)) (emptied 1))
-    go true true = record { memory = refl; area = refl; empty = λ z. absurd (z refl) }
-    go true false = record { memory = refl; area = refl; empty = λ z. refl }
-    go false b = record { memory = refl; area = refl; empty = λ z. refl }
+setup-leaves base size pids addresses count mem regs = left-setup (set-up base size pids addresses count mem regs)

@@ -5,24 +5,16 @@ use mathlib.Core.List.{List}
 use Prim.Native.Nat.{ℕ, _+_, _-_, _%_, _≤_, _<_}
 use native.Mathlib.Omega.{arith}
 use lib.ListN.{length, set, replicate, getD-replicate}
-use lib.Seq.{getD-set-same, getD-set-other}
 use Rattle.common.proofs.Same.{true-or-false}
 use Rattle.condition.specs.Depth.{wellFormed}
 use Rattle.fit.specs.Fit.{entryAt}
-use Rattle.common.proofs.Cases.{on-same}
+use Rattle.common.proofs.Lists.{at-set}
 use Rattle.target.specs.Free.{isFree}
 use Rattle.target.specs.Fresh.{noEntry, freshEntry}
 use Rattle.target.specs.declared.Entry.{Entry}
 use Rattle.rules.specs.Request.{withPlains}
+use Rattle.rules.specs.Facts.{UsedIn, Differ}
 use Rattle.rules.specs.Slots.{withPlain, with-at}
-
--- entry k is used
-abbrev pub UsedIn : List Entry → ℕ → Type 0
-UsedIn es k = (k < 8) × (isFree (entryAt es k) ≡ false)
-
--- used entries have keys of their own
-abbrev pub Differ : (Entry → ℕ) → List Entry → Type 0
-Differ key es = (j k : ℕ) → UsedIn es j → UsedIn es k → key (entryAt es j) ≡ key (entryAt es k) → j ≡ k
 
 -- a used entry over a window of n bytes at base
 pub record Row (base n : ℕ) (e : Entry) : Type 0 where
@@ -42,11 +34,8 @@ pub record Rows (base n : ℕ) (es : List Entry) : Type 0 where
 
 module _ (es : List Entry) (size : length es ≡ 8) (k : ℕ) (e : Entry) (h : k < 8) where
   -- what holds of it and of the others holds of each
-  pub at-set : (P : Entry → Type 0) (j : ℕ) → (j ≡ k → P e) → ((j ≡ k → ⊥) → P (entryAt es j)) → P (entryAt (set es k e) j)
-  at-set P j here there =
-      on-same j k
-      (λ q. rw (q, getD-set-same es k e noEntry (omega arith)) (here q))
-      (λ n. rw (getD-set-other es k j e noEntry n) (there n))
+  pub stored-at : (P : Entry → Type 0) (j : ℕ) → (j ≡ k → P e) → ((j ≡ k → ⊥) → P (entryAt es j)) → P (entryAt (set es k e) j)
+  stored-at P j = at-set es k e noEntry j (λ q. omega arith) P
 
   -- its key is none of the others'
   abbrev pub New : (Entry → ℕ) → Type 0
@@ -55,10 +44,10 @@ module _ (es : List Entry) (size : length es ≡ 8) (k : ℕ) (e : Entry) (h : k
   -- keys stay different
   differ-set : (key : Entry → ℕ) → Differ key es → (isFree e ≡ false → New key) → Differ key (set es k e)
   differ-set key old new i j (hi, ui) (hj, uj) =
-      at-set (λ x. isFree x ≡ false → key x ≡ key (entryAt (set es k e) j) → i ≡ j) i
-      (λ q u. at-set (λ y. isFree y ≡ false → key e ≡ key y → i ≡ j) j
+      stored-at (λ x. isFree x ≡ false → key x ≡ key (entryAt (set es k e) j) → i ≡ j) i
+      (λ q u. stored-at (λ y. isFree y ≡ false → key e ≡ key y → i ≡ j) j
       (λ p v s. q ∙ sym p) (λ n v s. absurd (new u j (hj, v) n (sym s))) uj)
-      (λ n u. at-set (λ y. isFree y ≡ false → key (entryAt es i) ≡ key y → i ≡ j) j
+      (λ n u. stored-at (λ y. isFree y ≡ false → key (entryAt es i) ≡ key y → i ≡ j) j
       (λ p v s. absurd (new v i (hi, u) n s)) (λ m v s. old i j (hi, u) (hj, v) s) uj)
       ui
 
@@ -67,7 +56,7 @@ module _ (es : List Entry) (size : length es ≡ 8) (k : ℕ) (e : Entry) (h : k
       → (isFree e ≡ false → Row base n e) → (isFree e ≡ false → New (λ x. x .id)) → (isFree e ≡ false → New (λ x. x .site))
       → Rows base n (set es k e)
   rows-set base n r row ids sites = record {
-    row = λ j u. at-set (λ x. isFree x ≡ false → Row base n x) j (λ q. row) (λ m v. r .row j (u .0, v)) (u .1);
+    row = λ j u. stored-at (λ x. isFree x ≡ false → Row base n x) j (λ q. row) (λ m v. r .row j (u .0, v)) (u .1);
     ids = differ-set (λ x. x .id) (r .ids) ids;
     sites = differ-set (λ x. x .site) (r .sites) sites;
   }
@@ -76,7 +65,7 @@ module _ (es : List Entry) (size : length es ≡ 8) (k : ℕ) (e : Entry) (h : k
 
 module _ (es : List Entry) (size : length es ≡ 8) (bytes : List ℕ) where
   -- what does not look at them is as it was
-  with-same : {A : Type 0} (f : Entry → A) → ((e : Entry) (p : List ℕ) → f (withPlain e p) ≡ f e) → (k : ℕ) → k < 8
+  pub with-same : {A : Type 0} (f : Entry → A) → ((e : Entry) (p : List ℕ) → f (withPlain e p) ≡ f e) → (k : ℕ) → k < 8
       → f (entryAt (withPlains es bytes) k) ≡ f (entryAt es k)
   with-same f same k h = ap f (with-at es bytes k (omega arith)) ∙ same (entryAt es k) _
 

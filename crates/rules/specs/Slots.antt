@@ -8,6 +8,8 @@ use native.Mathlib.Omega.{arith}
 use lib.ListN.{length, getD, take, drop, set, length-append, length-drop, length-map, take-append-drop, List·getD-append}
 use lib.Seq.{getD-append-add, drop-drop, take-at, drop-at}
 use Rattle.common.specs.First.{firstOf}
+use Rattle.common.proofs.Lists.{map-set}
+use Rattle.common.proofs.Tab.{map-at}
 use Rattle.memory.specs.Overlay.{noSite}
 use Rattle.fit.specs.Arrays.{noId, idOf, siteOf, idsOf, sitesOf, plainsOf}
 use Rattle.fit.specs.Fit.{entryAt}
@@ -15,19 +17,6 @@ use Rattle.target.specs.Free.{isFree, firstFree}
 use Rattle.target.specs.Fresh.{noEntry}
 use Rattle.target.specs.declared.Entry.{Entry}
 use Rattle.rules.specs.Request.{withPlains}
-
--- ---- a function of each element
-
-module _ {A B : Type 0} (f : A → B) where
-  map-at : (l : List A) (d : A) (d′ : B) (k : ℕ) → k < length l → getD (map f l) k d′ ≡ f (getD l k d)
-  map-at [] d d′ k h = absurd (not-suc-le-zero h)
-  map-at (x ∷ xs) d d′ zero h = refl
-  map-at (x ∷ xs) d d′ (suc k) h = map-at xs d d′ k (le-of-suc-le-suc h)
-
-  map-set : (l : List A) (k : ℕ) (y : A) → map f (set l k y) ≡ set (map f l) k (f y)
-  map-set [] k y = refl
-  map-set (x ∷ xs) zero y = refl
-  map-set (x ∷ xs) (suc k) y = ap (λ (l : List B). f x ∷ l) (map-set xs k y)
 
 -- ---- one slot
 
@@ -58,6 +47,14 @@ module _ (base : ℕ) (es : List Entry) where
   pub site-at : (k : ℕ) → k < length es → getD (sitesOf base es) k 0 ≡ siteOf base (entryAt es k)
   unfolding sitesOf
   site-at k h = map-at (siteOf base) es noEntry 0 k h
+
+  -- a used slot has its entry's site, a free one has none
+  module _ (k : ℕ) (h : k < length es) where
+    pub slot-used : isFree (entryAt es k) ≡ false → getD (sitesOf base es) k 0 ≡ entryAt es k .site - base
+    slot-used u = site-at k h ∙ site-used base _ u
+
+    pub slot-free : isFree (entryAt es k) ≡ true → getD (sitesOf base es) k 0 ≡ noSite
+    slot-free u = site-at k h ∙ site-free base _ u
 
   pub sites-set : (k : ℕ) (e : Entry) → sitesOf base (set es k e) ≡ set (sitesOf base es) k (siteOf base e)
   unfolding sitesOf

@@ -1,25 +1,22 @@
 -- Demand 3, over any head: over every list of steps after an accepted setup, real memory and every answer are the book's.
 -- The relation (Agree.antt) holds after setup, and every step and every outside change keeps it; what is claimed follows from it.
-use mathlib.Core.Path.{_≡_, refl, ap, _∙_}
-use mathlib.Core.Bool.{false, _&&_}
+use mathlib.Core.Path.{_≡_, refl, _∙_}
+use mathlib.Core.Bool.{false}
 use mathlib.Core.List.{List, [], _∷_}
 use mathlib.Core.Option.{none}
-use Prim.Native.Nat.{ℕ, _*_}
-use native.Mathlib.Omega.{arith}
-use lib.Dec.{eqb}
-use lib.ListN.{length, set}
-use Rattle.fit.specs.Fit.{windowFit, processesFit}
+use Prim.Native.Nat.{ℕ}
+use borrow.Author.Tests.{eqb-false}
+use lib.ListN.{set}
 use Rattle.memory.specs.Head.{Head}
 use Rattle.memory.specs.Overlay.{covered}
 use Rattle.target.specs.declared.Target.{Target}
-use Rattle.rules.specs.declared.Answer.the-variants.{Nothing}
-use Rattle.rules.specs.Outcome.{world, Outcome, answered}
+use Rattle.rules.specs.Outcome.{Outcome, answered}
 use Rattle.rules.specs.Breakpoint.{sites}
-use Rattle.rules.specs.Step.{setupTarget, setupOf, stepOf}
+use Rattle.rules.specs.Step.{setupTarget, stepOf}
 use Rattle.rules.specs.Book.{Book, Setup, setupBy, opened, withPlain, fed, underTrap, Event, step, change, Claim, Demand3}
 use Rattle.rules.specs.Facts.{Good}
 use Rattle.rules.specs.FitFacts.{facts-of}
-use Rattle.rules.specs.KeptWorld.{choose}
+use Rattle.rules.specs.Outcomes.{SetUp, taken, emptied, set-up}
 use Rattle.rules.specs.Kept.{good-setup, good-kept, good-change, never-three}
 use Rattle.rules.specs.Agree.{Follows, Agree}
 use Rattle.rules.specs.Listed.{listed-fresh}
@@ -35,17 +32,7 @@ module _ (s : Setup) where
   abbrev begun : Target
   begun = setupTarget (s .base) (s .size) (s .pids) (s .addresses) (s .count)
 
-  -- it answers the record that is set up
-  accepted : setupBy s .number ≡ 0 → setupBy s ≡ answered Nothing (world begun (s .mem) (s .regs))
-  unfolding setupBy setupOf
-  accepted =
-      let P : Outcome → Type 0 = λ o. o .number ≡ 0 → o ≡ answered Nothing (world begun (s .mem) (s .regs)) in
-      choose P (windowFit (s .base) (s .size) && processesFit (begun .processes) (s .count))
-      (λ e. choose P (eqb (length (s .mem)) (s .size) && eqb (length (s .regs)) (136 * s .count))
-      (λ f z. refl) (λ f z. absurd (omega arith)))
-      (λ e z. absurd (omega arith))
-
-  -- which follows the book that is opened
+  -- its record follows the book that is opened
   follows-setup : {head : Head} → Good head begun (s .mem) → Follows s (opened s) begun (s .mem)
   unfolding setupTarget opened
   follows-setup good =
@@ -61,12 +48,16 @@ module _ (s : Setup) where
         stopped = halted-begun (s .pids) (s .addresses) (s .count) (f .few);
       }
 
-  pub agree-setup : (head : Head) → setupBy s .number ≡ 0 → Agree head s (opened s) (setupBy s .after .target) (s .mem)
+  agree-taken : {head : Head} {o : Outcome} → SetUp (s .base) (s .size) (s .pids) (s .addresses) (s .count) (s .mem) (s .regs) o
+      → Good head (o .after .target) (s .mem) → o .number ≡ 0 → Agree head s (opened s) (o .after .target) (s .mem)
   unfolding answered
+  agree-taken (taken e f z) good n = record { good = good; follows = follows-setup good }
+  agree-taken (emptied n h) good z = absurd (eqb-false n 0 h z)
+
+  pub agree-setup : (head : Head) → setupBy s .number ≡ 0 → Agree head s (opened s) (setupBy s .after .target) (s .mem)
+  unfolding setupBy
   agree-setup head h =
-      let same : setupBy s .after .target ≡ begun = ap (λ (o : Outcome). o .after .target) (accepted h) in
-      let good : Good head begun (s .mem) = rw same at (good-setup head s h) in
-      record { good = good-setup head s h; follows = rw same (follows-setup good) }
+      agree-taken (set-up (s .base) (s .size) (s .pids) (s .addresses) (s .count) (s .mem) (s .regs)) (good-setup head s h) h
 
 -- ---- every list
 

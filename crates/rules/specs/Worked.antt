@@ -30,9 +30,7 @@ use Rattle.fit.specs.Fit.{windowFit, pidFit, processesFit, apart, siteFit, entr
 use Rattle.fit.specs.Fit.{processOf, currentFit, entryOf, draftTest, draftFit, fitOf}
 use Rattle.target.specs.Free.{isFree, firstFree}
 use Rattle.target.specs.declared.Target.{Target}
-use Rattle.rules.specs.declared.Answer.{Answer}
-use Rattle.rules.specs.declared.Answer.the-variants.{Nothing, Stop, Pass, Yes, No}
-use Rattle.rules.specs.Outcome.{World, Outcome, refused, answered, replied, error}
+use Rattle.rules.specs.Outcome.{World, Outcome, answerBytes, refused, answered, replied, error}
 use Rattle.rules.specs.Record.{withTable, withProcesses, withCurrent, withDraft, withEntries}
 use Rattle.rules.specs.Record.{withState, setState, isStopped, saved, pcOf, blockAt, stopWith}
 use Rattle.rules.specs.Breakpoint.{isAt, breakpointAt, madeEntry, planted, removed, removedAt}
@@ -50,14 +48,6 @@ use Rattle.rules.specs.Step.{Step, request, trapEvent, stateEvent, resta
 pub data Call : Type 0 where
   step : (List ℕ → Step) → Call
   look : (offset n : ℕ) → Call
-
--- the answer's bytes, as the program writes them
-unfoldable pub answerBytes : Answer → List ℕ
-answerBytes Nothing = []
-answerBytes (Stop id) = 1 ∷ id ∷ []
-answerBytes (Pass low high) = 2 ∷ low ∷ high ∷ []
-answerBytes Yes = 1 ∷ []
-answerBytes No = 0 ∷ []
 
 -- "A step whose number is not 0 writes its number only", another its number, then its answer or its reply
 unfoldable pub shown : Outcome → List ℕ
