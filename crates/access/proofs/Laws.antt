@@ -1,15 +1,14 @@
 -- Laws of the current process's block, of a record that is ready, and of what a read answers and a write leaves. Assumes nothing.
 use mathlib.Core.Path.{_≡_, refl, sym, ap, _∙_}
-use mathlib.Core.Bool.{Bool, true, false, cond, _&&_}
+use mathlib.Core.Bool.{Bool, true, false, cond}
 use mathlib.Core.List.{List}
 use Prim.Native.Nat.{ℕ, _+_, _-_, _*_, _<_, _≤_}
 use native.Mathlib.Omega.{arith}
-use borrow.Author.Tests.{eq-eqb, ne-eqb, le-leb, lt-leb, ltb-true, leb-true}
-use lib.Dec.{eqb, ltb, leb}
+use borrow.Author.Tests.{eq-eqb, ne-eqb, le-leb, lt-leb, ltb-true}
+use lib.Dec.{eqb, ltb}
 use lib.ListN.{length, take, replicate}
 use mir.Val.{Val}
 use denote.Laws.{Is}
-use Rattle.common.specs.Every.{every}
 use Rattle.common.specs.Same.{sameList}
 use Rattle.common.proofs.Same.{and-both, same-eq}
 use Rattle.common.proofs.Tab.{length-tab}
@@ -18,21 +17,22 @@ use Rattle.memory.specs.Place.{placeOf}
 use Rattle.memory.specs.declared.Place.{Place}
 use Rattle.memory.specs.declared.Place.the-variants.{Registers, Window}
 use Rattle.memory.specs.Write.{bytesAt, readOf, overwritten, memAfter, plainAfter}
-use Rattle.fit.specs.Fit.{processAt, entryAt, pidFit, processesFit, currentFit}
+use Rattle.fit.specs.Fit.{processAt, currentFit}
 use Rattle.fit.specs.declared.Scan.{Scan}
+use Rattle.fit.proofs.Slots.{TwoEach, sixteen-plains, eight-entries, two-each}
 use Rattle.rules.specs.declared.Answer.the-variants.{Nothing}
 use Rattle.rules.specs.declared.Change.the-variants.{Plain}
 use Rattle.rules.specs.Breakpoint.{sites, plains}
 use Rattle.rules.specs.Change.{applied}
-use Rattle.rules.specs.FitFacts.{tests-of}
+use Rattle.rules.specs.Facts.{Facts}
+use Rattle.rules.specs.FitFacts.{tests-of, facts-by}
 use Rattle.rules.specs.Outcome.{World, world, Outcome, outcome, replied, error}
 use Rattle.rules.specs.Ready.{Ready}
 use Rattle.rules.specs.Record.{withTable, withEntries, indexOf, isStopped}
 use Rattle.rules.specs.Request.{onBlock, data9Of, gotFrom, mget, mput, withPlains, windowWritten, putTo}
-use Rattle.rules.specs.Slots.{TwoEach, length-plains, with-plains}
+use Rattle.rules.specs.Slots.{with-plains}
 use Rattle.target.specs.declared.Entry.{Entry}
 use Rattle.target.specs.declared.Target.{Target}
-use Rattle.target.proofs.Shape.{entry-shape, table-entries, table-entry, target-table}
 use Rattle.target.proofs.Target as target
 use Rattle.wire.specs.Message.{bytes4, bytesOf}
 use Rattle.wire.specs.declared.Data4.{Data4}
@@ -97,19 +97,14 @@ block-within t regs i l e =
 -- ---- a record that is ready
 
 module _ (t : Target) (s : Scan) (mem regs : List ℕ) (r : Ready house t s mem regs) where
-  few : (1 ≤ t .count) × (t .count ≤ 4)
-  unfolding processesFit
-  few =
-      let n = t .count in
-      let e = tests-of t mem (r .fit) .processes in
-      let b = and-both (leb 1 n) (leb n 4) (and-both (leb 1 n && leb n 4) (every n (pidFit (t .processes))) e .0) in
-      (leb-true 1 n (b .0), leb-true n 4 (b .1))
+  facts : Facts house t mem
+  facts = facts-by house t mem (tests-of t mem (r .fit))
 
   pub ready-some : 1 ≤ t .count
-  ready-some = few .0
+  ready-some = facts .some
 
   pub ready-listed : Listed t regs
-  ready-listed = record { few = few .1; registers = r .registers; current = tests-of t mem (r .fit) .current }
+  ready-listed = record { few = facts .few; registers = r .registers; current = facts .current }
 
 -- ---- the replies
 
@@ -151,18 +146,9 @@ module _ (w : World) (addr n : ℕ) where
 
 -- ---- the plain bytes of a record's table
 
--- every entry of a record of the code has two plain bytes
-pub two-each : (t : Target) (vs : List Val) → Is target.the-row t vs → TwoEach (t .table .entries)
-two-each t vs h k l =
-    let (_, u) = target-table t vs h in
-    let (_, e) = table-entry (t .table) _ k u (omega (arith, table-entries (t .table) _ u)) in
-    entry-shape (entryAt (t .table .entries) k) _ e .plain
-
--- so a scan's plain bytes are sixteen, before a write and after it
+-- a scan's plain bytes are sixteen, before a write and after it
 pub sixteen : (t : Target) (vs : List Val) (s : Scan) (mem regs : List ℕ) → Is target.the-row t vs → Ready house t s mem regs → 16 ≡ length (s .plain)
-sixteen t vs s mem regs h r =
-    let (_, u) = target-table t vs h in
-    omega (arith, ap length (r .plain), length-plains (t .table .entries) (two-each t vs h), table-entries (t .table) _ u)
+sixteen t vs s mem regs h r = sym (ap length (r .plain) ∙ sixteen-plains (t .table .entries) (eight-entries t vs h) (two-each t vs h))
 
 pub length-after : (w : ℕ) (ss ps : List ℕ) (at : ℕ) (bytes plain : List ℕ) → plain ≡ plainAfter w ss ps at bytes → length ps ≡ length plain
 unfolding plainAfter

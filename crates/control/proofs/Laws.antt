@@ -6,9 +6,10 @@ use Prim.Native.Nat.{ℕ, _+_, _*_, _<_, _≤_}
 use native.Mathlib.Omega.{arith}
 use borrow.Author.Tests.{lt-ltb, le-ltb, eq-eqb, ne-eqb}
 use lib.ListN.{length, getD, replicate}
-use lib.Seq.{getD-take, getD-drop}
 use Rattle.common.specs.Bytes.{ofHighFirst}
+use Rattle.common.proofs.Lists.{part-at}
 use Rattle.fit.specs.Fit.{stopped, processAt, entryAt, fitOf}
+use Rattle.fit.proofs.Laws.{pid-missing, pid-listed}
 use Rattle.memory.specs.Head.{house}
 use Rattle.rules.specs.Breakpoint.{breakpointAt, removed, removedAt}
 use Rattle.rules.specs.Change.{without, applied}
@@ -43,13 +44,13 @@ module _ (w : World) (pid i : ℕ) (e : i ≡ indexOf (w .target) pid) where
   -- it is not: Rerr pid
   pub unlisted : w .target .count ≤ i → (serve : ℕ → Process → Outcome) → error Pid w ≡ onProcess w pid serve
   unfolding onProcess
-  unlisted h serve = rw (← e, le-ltb i (w .target .count) h)
+  unlisted h serve = pid-missing _ _ _ _ e serve _ h
 
   module _ (h : i < w .target .count) where
     -- it is: what the request says of its process
     pub listed : (serve : ℕ → Process → Outcome) → serve i (processAt (w .target .processes) i) ≡ onProcess w pid serve
     unfolding onProcess
-    listed serve = rw (← e, lt-ltb i (w .target .count) h)
+    listed serve = pid-listed _ _ _ _ e serve _ h
 
     -- Tstop and Tstart: one world for a Stopped process, another for any other
     module _ (m : Message) (yes no : ℕ → Process → World) where
@@ -71,7 +72,7 @@ module _ (w : World) (pid i : ℕ) (e : i ≡ indexOf (w .target) pid) where
 module _ (regs : List ℕ) (i : ℕ) where
   block-byte : (at k : ℕ) → k < 136 → at ≡ 136 * i + k → getD (blockAt regs i) k 0 ≡ getD regs at 0
   unfolding blockAt
-  block-byte at k h e = rw (e, getD-take, getD-drop)
+  block-byte at k h e = rw e (part-at regs (136 * i) 136 k 0 h)
 
   pub saved-pc : (at : ℕ) → at ≡ 136 * i + 132
       → ofHighFirst (getD regs at 0 ∷ getD regs (at + 1) 0 ∷ getD regs (at + 2) 0 ∷ getD regs (at + 3) 0 ∷ []) ≡ pcOf (blockAt regs i)

@@ -1,6 +1,6 @@
 -- Laws of tests in loops, and of the processes' tests. Assumes nothing.
 use mathlib.Core.Path.{_≡_, sym, _∙_}
-use mathlib.Core.Bool.{Bool, true, false, not}
+use mathlib.Core.Bool.{Bool, true, false, cond, not}
 use mathlib.Core.List.{List}
 use Prim.Native.Nat.{ℕ, _<_, _≤_}
 use native.Mathlib.Omega.{arith}
@@ -12,7 +12,7 @@ use Rattle.common.proofs.Every.{every-fails, every-ext}
 use Rattle.common.proofs.Fill.{filled, fill-before}
 use Rattle.common.proofs.Same.{parts}
 use Rattle.target.specs.declared.Process.{Process}
-use Rattle.fit.specs.Fit.{processAt, pidFit, processesFit}
+use Rattle.fit.specs.Fit.{processAt, pidFit, processesFit, processOf}
 
 -- what a call answered, where the code tested `!` of it
 pub answered-yes : (r test : Bool) → r ≡ test → not r ≡ false → test ≡ true
@@ -64,3 +64,17 @@ module _ (ps : List Process) (n : ℕ) (h : 1 ≤ n) (k : n ≤ 4) where
 pub processes-few : (ps : List Process) (n : ℕ) → processesFit ps n ≡ true → n ≤ 4
 unfolding processesFit
 processes-few ps n h = search parts
+
+-- ---- by a pid
+
+module _ {A : Type 0} (ps : List Process) (n pid i : ℕ) (e : i ≡ processOf ps n pid) (serve : ℕ → Process → A) (other : A) where
+  abbrev byPid : A
+  byPid = let k = processOf ps n pid in cond (ltb k n) (serve k (processAt ps k)) other
+
+  -- no process has it
+  pub pid-missing : n ≤ i → other ≡ byPid
+  pid-missing h = rw (← e, le-ltb i n h)
+
+  -- the process at i has it
+  pub pid-listed : i < n → serve i (processAt ps i) ≡ byPid
+  pid-listed h = rw (← e, lt-ltb i n h)
