@@ -19,13 +19,13 @@ use Rattle.memory.specs.declared.Place.the-variants.{Registers, Window}
 use Rattle.memory.specs.Write.{bytesAt, readOf, overwritten, memAfter, plainAfter}
 use Rattle.fit.specs.Fit.{processAt, currentFit}
 use Rattle.fit.specs.declared.Scan.{Scan}
+use Rattle.fit.proofs.Laws.{fit-few}
 use Rattle.fit.proofs.Slots.{TwoEach, sixteen-plains, eight-entries, two-each}
 use Rattle.rules.specs.declared.Answer.the-variants.{Nothing}
 use Rattle.rules.specs.declared.Change.the-variants.{Plain}
 use Rattle.rules.specs.Breakpoint.{sites, plains}
 use Rattle.rules.specs.Change.{applied}
-use Rattle.rules.specs.Facts.{Facts}
-use Rattle.rules.specs.FitFacts.{tests-of, facts-by}
+use Rattle.rules.specs.FitFacts.{tests-of}
 use Rattle.rules.specs.Outcome.{World, world, Outcome, outcome, replied, error}
 use Rattle.rules.specs.Ready.{Ready}
 use Rattle.rules.specs.Record.{withTable, withEntries, indexOf, isStopped}
@@ -60,13 +60,13 @@ module _ (t : Target) where
     block-running e = rw (ne-eqb (t .selected) 0 h, ← q, ne-eqb (processAt (t .processes) i .state) 8 e)
 
 -- what is done on a block: it is served, or refused for a reason
-unfoldable pub onIt : Block → World → (ℕ → Outcome) → Outcome
+unfoldable onIt : Block → World → (ℕ → Outcome) → Outcome
 onIt (At i) w serve = serve i
 onIt (Refused r) w serve = error r w
 
-pub on-it : (w : World) (serve : ℕ → Outcome) (b : Block) → b ≡ blockOf (w .target) → onIt b w serve ≡ onBlock w serve
+on-it : (w : World) (serve : ℕ → Outcome) (b c : Block) → c ≡ blockOf (w .target) → c ≡ b → onIt b w serve ≡ onBlock w serve
 unfolding onBlock blockOf onIt
-on-it w serve b e = rw e (by (eqb (t .selected) 0) (isStopped (processAt (t .processes) i)))
+on-it w serve b c f e = rw (sym e ∙ f) (by (eqb (t .selected) 0) (isStopped (processAt (t .processes) i)))
   where
     t : Target
     t = w .target
@@ -86,25 +86,19 @@ at-index false true i k e = (refl, cc)
 at-index false false i k e = (cc, cc)
 
 -- the current process's block is one of the register area
-pub block-within : (t : Target) (regs : List ℕ) (i : ℕ) → Listed t regs → At i ≡ blockOf t → 136 * i + 136 ≤ length regs
+pub block-within : (t : Target) (regs : List ℕ) → Listed t regs → (b : Block) (i : ℕ) → b ≡ blockOf t → b ≡ At i → 136 * i + 136 ≤ length regs
 unfolding blockOf currentFit
-block-within t regs i l e =
+block-within t regs l b i f e =
     let k = indexOf t (t .current) in
-    let a = at-index (eqb (t .selected) 0) (isStopped (processAt (t .processes) k)) i k e in
+    let a = at-index (eqb (t .selected) 0) (isStopped (processAt (t .processes) k)) i k (sym e ∙ f) in
     let h = and-both (eqb (t .selected) 1) (ltb k (t .count)) (rw (a .0) at (l .current)) in
     omega (arith, ltb-true k (t .count) (h .1))
 
 -- ---- a record that is ready
 
 module _ (t : Target) (s : Scan) (mem regs : List ℕ) (r : Ready house t s mem regs) where
-  facts : Facts house t mem
-  facts = facts-by house t mem (tests-of t mem (r .fit))
-
-  pub ready-some : 1 ≤ t .count
-  ready-some = facts .some
-
   pub ready-listed : Listed t regs
-  ready-listed = record { few = facts .few; registers = r .registers; current = facts .current }
+  ready-listed = record { few = fit-few house t mem (r .fit); registers = r .registers; current = tests-of t mem (r .fit) .current }
 
 -- ---- the replies
 
@@ -119,10 +113,10 @@ module _ (w : World) (reply : List ℕ) where
     unfolding replied
     answers l h = rw (e, h)
 
-    pub got-block : (i : ℕ) → At i ≡ blockOf (w .target) → got ≡ bytesAt (w .regs) (136 * i + addr) n 9
+    pub got-block : (b : Block) (i : ℕ) → b ≡ blockOf (w .target) → b ≡ At i → got ≡ bytesAt (w .regs) (136 * i + addr) n 9
         → outcome 0 Nothing w reply ≡ gotFrom Registers w addr n
     unfolding gotFrom onIt
-    got-block i b h = answers _ h ∙ on-it w _ (At i) b
+    got-block b i f t h = answers _ h ∙ on-it w _ (At i) b f t
 
     pub got-window : got ≡ readOf 2 (sites (w .target)) (plains (w .target)) (w .mem) (addr - w .target .base) n 9
         → outcome 0 Nothing w reply ≡ gotFrom Window w addr n
@@ -134,9 +128,9 @@ module _ (w : World) (reply : List ℕ) where
     got-none h z = rw (eq-eqb n 0 z) (answers _ h)
 
 module _ (w : World) (addr n : ℕ) where
-  pub got-refused : (r : Reason) → Refused r ≡ blockOf (w .target) → error r w ≡ gotFrom Registers w addr n
+  pub got-refused : (b : Block) (r : Reason) → b ≡ blockOf (w .target) → b ≡ Refused r → error r w ≡ gotFrom Registers w addr n
   unfolding gotFrom onIt
-  got-refused r b = on-it w _ (Refused r) b
+  got-refused b r f t = on-it w _ (Refused r) b f t
 
   -- what is got from the place that the address names
   pub got-from : (n ≡ 0 → ⊥) → (q : Place) → placeOf (w .target .base) (w .target .size) addr n ≡ q
@@ -162,15 +156,15 @@ module _ (w : World) (addr : ℕ) (bytes : List ℕ) where
   unfolding putTo
   put-zero h = rw (le-leb addr 3 h)
 
-  pub put-refused : 3 < addr → (r : Reason) → Refused r ≡ blockOf (w .target) → error r w ≡ putTo Registers w addr bytes
+  pub put-refused : 3 < addr → (b : Block) (r : Reason) → b ≡ blockOf (w .target) → b ≡ Refused r → error r w ≡ putTo Registers w addr bytes
   unfolding putTo onIt
-  put-refused h r b = rw (lt-leb addr 3 h) (on-it w _ (Refused r) b)
+  put-refused h b r f t = rw (lt-leb addr 3 h) (on-it w _ (Refused r) b f t)
 
-  pub put-block : 3 < addr → (i : ℕ) → At i ≡ blockOf (w .target) → (regs reply : List ℕ)
+  pub put-block : 3 < addr → (b : Block) (i : ℕ) → b ≡ blockOf (w .target) → b ≡ At i → (regs reply : List ℕ)
       → regs ≡ overwritten (w .regs) (136 * i + addr) bytes → reply ≡ bytesOf Rmput
       → outcome 0 Nothing (world (w .target) (w .mem) regs) reply ≡ putTo Registers w addr bytes
   unfolding putTo replied onIt
-  put-block h i b regs reply e r = rw (e, r, lt-leb addr 3 h) (on-it w _ (At i) b)
+  put-block h b i f t regs reply e r = rw (e, r, lt-leb addr 3 h) (on-it w _ (At i) b f t)
 
   module _ (ss ps : List ℕ) (e : ss ≡ sites (w .target)) (f : ps ≡ plains (w .target)) (mem plain reply : List ℕ)
       (m : mem ≡ memAfter 2 ss (w .mem) (addr - w .target .base) bytes) (p : plain ≡ plainAfter 2 ss ps (addr - w .target .base) bytes)

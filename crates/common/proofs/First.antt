@@ -31,9 +31,9 @@ module _ {A : Type 0} (f : A → Bool) (l : List A) (d : A) (k n : ℕ) (z : len
   stop h u p = sym (p ∙ rw (drop-cons l k d (omega arith), u, add-zero))
 
   -- every place is passed: the test holds at none
-  pub none : k ≡ n → Passed f l k → n ≡ firstOf f l
+  pub none : k ≡ n → Passed f l k → k ≡ firstOf f l
   unfolding firstOf
-  none h p = sym (p ∙ rw (drop-of-length-le l {i = k} (omega arith), add-zero) h)
+  none h p = sym (p ∙ rw (drop-of-length-le l {i = k} (omega arith), add-zero))
 
 -- the place is within the list, or is its length
 pub first-within : {A : Type 0} (f : A → Bool) (l : List A) → firstOf f l ≤ length l

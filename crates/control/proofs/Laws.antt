@@ -1,6 +1,6 @@
 -- Laws of the requests on a process: whether it is listed, its state, its saved pc and the breakpoint there. Assumes nothing.
 use mathlib.Core.Path.{_≡_, ap}
-use mathlib.Core.Bool.{true, false, cond}
+use mathlib.Core.Bool.{false, cond}
 use mathlib.Core.List.{List, [], _∷_}
 use Prim.Native.Nat.{ℕ, _+_, _*_, _<_, _≤_}
 use native.Mathlib.Omega.{arith}
@@ -8,13 +8,10 @@ use borrow.Author.Tests.{lt-ltb, le-ltb, eq-eqb, ne-eqb}
 use lib.ListN.{length, getD, replicate}
 use Rattle.common.specs.Bytes.{ofHighFirst}
 use Rattle.common.proofs.Lists.{part-at}
-use Rattle.fit.specs.Fit.{stopped, processAt, entryAt, fitOf}
+use Rattle.fit.specs.Fit.{stopped, processAt, entryAt}
 use Rattle.fit.proofs.Laws.{pid-missing, pid-listed}
-use Rattle.memory.specs.Head.{house}
 use Rattle.rules.specs.Breakpoint.{breakpointAt, removed, removedAt}
 use Rattle.rules.specs.Change.{without, applied}
-use Rattle.rules.specs.Facts.{Facts}
-use Rattle.rules.specs.FitFacts.{tests-of, facts-by}
 use Rattle.rules.specs.Found.{at-used}
 use Rattle.rules.specs.Outcome.{World, world, Outcome, replied, error}
 use Rattle.rules.specs.Ready.{served}
@@ -85,10 +82,7 @@ module _ (regs : List ℕ) (i : ℕ) where
         block-byte (at + 3) 135 (omega arith) (omega arith),
       )
 
--- ---- the breakpoint at an address, of a fit record
-
-pub facts : (t : Target) (mem : List ℕ) → fitOf house t mem ≡ true → Facts house t mem
-facts t mem e = facts-by house t mem (tests-of t mem e)
+-- ---- the breakpoint at an address
 
 module _ (w : World) (address k : ℕ) (z : length (w .target .table .entries) ≡ 8)
     (e : k ≡ breakpointAt (w .target .table .entries) address) where

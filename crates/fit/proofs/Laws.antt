@@ -11,8 +11,10 @@ use Rattle.common.specs.Every.{every}
 use Rattle.common.proofs.Every.{every-fails, every-ext}
 use Rattle.common.proofs.Fill.{filled, fill-before}
 use Rattle.common.proofs.Same.{parts}
+use Rattle.memory.specs.Head.{Head}
 use Rattle.target.specs.declared.Process.{Process}
-use Rattle.fit.specs.Fit.{processAt, pidFit, processesFit, processOf}
+use Rattle.target.specs.declared.Target.{Target}
+use Rattle.fit.specs.Fit.{processAt, pidFit, processesFit, processOf, fitOf}
 
 -- what a call answered, where the code tested `!` of it
 pub answered-yes : (r test : Bool) → r ≡ test → not r ≡ false → test ≡ true
@@ -64,6 +66,17 @@ module _ (ps : List Process) (n : ℕ) (h : 1 ≤ n) (k : n ≤ 4) where
 pub processes-few : (ps : List Process) (n : ℕ) → processesFit ps n ≡ true → n ≤ 4
 unfolding processesFit
 processes-few ps n h = search parts
+
+-- ---- a fit record has from one to four processes
+
+module _ (h : Head) (t : Target) (mem : List ℕ) (e : fitOf h t mem ≡ true) where
+  pub fit-some : 1 ≤ t .count
+  unfolding fitOf processesFit
+  fit-some = search parts depth 9
+
+  pub fit-few : t .count ≤ 4
+  unfolding fitOf
+  fit-few = processes-few (t .processes) (t .count) (search parts depth 9)
 
 -- ---- by a pid
 

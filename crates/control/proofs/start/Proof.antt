@@ -5,10 +5,12 @@ use Prim.Native.Nat.{_<_, _≤_}
 use native.Mathlib.Omega.{arith}
 use borrow.Author.Needs.{needs}
 use lib.ListN.{length}
+use Rattle.fit.proofs.Laws.{fit-few}
 use Rattle.fit.proofs.Slots.{eight-entries}
+use Rattle.memory.specs.Head.{house}
 use Rattle.rules.specs.Change.{applied}
 use Rattle.rules.specs.Request.{start}
-use Rattle.control.proofs.Laws.{replies, unlisted, when-not, facts, start-none, start-one, used-at}
+use Rattle.control.proofs.Laws.{replies, unlisted, when-not, start-none, start-one, used-at}
 use Rattle.control.proofs.start.Statement.{statement}
 use Rattle.control.proofs.start.Tie as tie
 
@@ -18,7 +20,7 @@ eight c = eight-entries (c .args .t) _ (c .good .0)
 
 -- the processes are at most four, so that one that is listed is below
 few : (c : tie.Start) → c .args .t .count ≤ 4
-few c = facts (c .args .t) _ (c .pre .fit) .few
+few c = fit-few house (c .args .t) _ (c .pre .fit)
 
 below : (c : tie.Else1) → c .before .process-of .result < 4
 below c = omega (arith, few (c .before .before .before .before .before .before))

@@ -53,7 +53,7 @@ returns : tie.Need-returns Inv-loop μ-loop
 unfolding processOf
 returns c =
     let o = c .before .loop .inv in
-    c .if1 .taken ∙ none _ _ noProcess _ _ (o .2) (c .if1 .taken) (o .3)
+    none _ _ noProcess _ _ (o .2) (c .if1 .taken) (o .3)
 
 returns-2 : tie.Need-returns-2 Inv-loop μ-loop
 unfolding processOf

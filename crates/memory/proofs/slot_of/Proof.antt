@@ -1,6 +1,6 @@
 -- `memory::slot_of` meets its contract. The loop's invariant: no site before slot k covers the offset. Assumes nothing.
 use Prim.Native.Nat.{_≤_, _-_}
-use mathlib.Core.Path.{_≡_, sym, _∙_}
+use mathlib.Core.Path.{_≡_, sym}
 use native.Mathlib.Omega.{arith}
 use borrow.Author.Needs.{needs}
 use borrow.Author.Tests.{eq-eqb, ne-eqb}
@@ -47,7 +47,7 @@ returns : tie.Need-returns Inv-loop μ-loop
 unfolding slotOf siteOver
 returns c =
     let o = c .before .loop .inv in
-    c .if1 .taken ∙ none _ _ 0 _ 8 (o .1) (c .if1 .taken) (o .2)
+    none _ _ 0 _ 8 (o .1) (c .if1 .taken) (o .2)
 
 returns-2 : tie.Need-returns-2 Inv-loop μ-loop
 unfolding slotOf siteOver

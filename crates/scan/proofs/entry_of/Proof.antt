@@ -1,5 +1,5 @@
 -- `scan::entry_of` meets its contract. The loop's invariant: no slot before place k has the id. Assumes nothing.
-use mathlib.Core.Path.{_≡_, sym, _∙_}
+use mathlib.Core.Path.{_≡_, sym}
 use Prim.Native.Nat.{_≤_, _-_}
 use native.Mathlib.Omega.{arith}
 use borrow.Author.Needs.{needs}
@@ -39,7 +39,7 @@ loop-again c =
 returns : tie.Need-returns Inv-loop μ-loop
 returns c =
     let o = c .before .loop .inv in
-    c .if1 .taken ∙ none _ _ 0 _ 8 (o .1) (c .if1 .taken) (o .2)
+    none _ _ 0 _ 8 (o .1) (c .if1 .taken) (o .2)
 
 returns-2 : tie.Need-returns-2 Inv-loop μ-loop
 returns-2 c =

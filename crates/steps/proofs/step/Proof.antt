@@ -5,12 +5,14 @@ use borrow.Author.Needs.{needs}
 use borrow.Author.Tests.{not-false}
 use denote.Ref.{now}
 use lib.ListN.{length}
+use Rattle.fit.proofs.Laws.{fit-few}
 use Rattle.memory.specs.Head.{house}
 use Rattle.events.proofs.Laws.{refuses}
-use Rattle.rules.specs.Outcome.{World, world}
+use Rattle.rules.specs.Outcome.{world}
 use Rattle.rules.specs.Ready.{Ready}
+use Rattle.rules.specs.Step.{sized}
 use Rattle.steps.specs.Kinds.{lentRight}
-use Rattle.steps.proofs.Laws.{ready-by, few, lent-request, lent-trap, lent-schedule, lent-restart, wrong-size, wrong-lent, unfit}
+use Rattle.steps.proofs.Laws.{ready-by, lent-request, lent-trap, lent-schedule, lent-restart, wrong-size, wrong-lent, unfit}
 use Rattle.steps.proofs.Laws.{leaves, takes-request, takes-trap, takes-schedule, takes-state, takes-restart}
 use Rattle.steps.proofs.step.Statement.{statement}
 use Rattle.steps.proofs.step.Tie as tie
@@ -20,17 +22,18 @@ abbrev start : tie.After-sizes-right → tie.Start
 start z = z .before .before .before .before .before
 
 -- and where they are found right, from where the record is
-abbrev sized : tie.After-struct-known → tie.Else1
-sized k = k .before .before .before .before .before
+abbrev right : tie.After-struct-known → tie.Else1
+right k = k .before .before .before .before .before
 
 lent : (k : tie.After-struct-known)
-    → let a = start (sized k .before) .args in lentRight (a .kind) (length (now (a .input))) (length (now (a .reply))) ≡ true
+    → let a = start (right k .before) .args in lentRight (a .kind) (length (now (a .input))) (length (now (a .reply))) ≡ true
 lent k = let l = k .before .before .before in sym (l .before .lent-right .ensures) ∙ not-false _ (l .if2 .left)
 
 ready : (q : tie.Else3)
-    → let a = start (sized (q .before) .before) .args in Ready house (a .t) (q .before .before .check .result) (now (a .mem)) (now (a .regs))
+    → let a = start (right (q .before) .before) .args in Ready house (a .t) (q .before .before .check .result) (now (a .mem)) (now (a .regs))
+unfolding sized
 ready q =
-    let z = sized (q .before) in
+    let z = right (q .before) in
     let a = start (z .before) .args in
     ready-by (world (a .t) (now (a .mem)) (now (a .regs))) _ (z .before .sizes-right .ensures) (z .if1 .left) _
     (q .before .before .check .ensures) (q .if3 .left)
@@ -42,6 +45,7 @@ keeping-requires : tie.Need-keeping-requires
 keeping-requires c κs = search needs
 
 returns : tie.Need-returns
+unfolding sized
 returns c =
     let z = c .before in
     refuses _ _ _ 2 (c .keeping .ensures) ∙ wrong-size _ _ _ _ _ _ _ (z .before .sizes-right .ensures) (z .if1 .taken)
@@ -67,9 +71,10 @@ same-length : tie.Need-same-length
 same-length c = search needs
 
 returns-3 : tie.Need-returns-3
+unfolding sized
 returns-3 c =
     let k = c .before .before in
-    let z = sized k in
+    let z = right k in
     refuses _ _ _ 3 (c .keeping3 .ensures)
     ∙ unfit _ _ _ _ _ _ (lent k) _ (z .before .sizes-right .ensures) (z .if1 .left) _ (k .before .check .ensures) (c .before .if3 .taken)
 
@@ -87,10 +92,10 @@ schedule-requires : tie.Need-schedule-requires
 schedule-requires c κs =
     let m = c .before in
     let ok = ready (m .before) in
-    (few _ _ _ _ ok, ok .registers, lent-schedule _ _ _ (lent (m .before .before)) (m .match .keys3))
+    (fit-few house _ _ (ok .fit), ok .registers, lent-schedule _ _ _ (lent (m .before .before)) (m .match .keys3))
 
 state-requires : tie.Need-state-requires
-state-requires c κs = few _ _ _ _ (ready (c .before))
+state-requires c κs = fit-few house _ _ (ready (c .before) .fit)
 
 restart-requires : tie.Need-restart-requires
 restart-requires c κs =

@@ -43,7 +43,7 @@ loop-again c =
     (omega arith, pass _ _ [] _ _ refl (omega arith) (sym (c .before .equal .ensures) ∙ c .if2 .left) (o .loop .inv .1))
 
 returns : tie.Need-returns Inv-loop μ-loop
-returns c = c .if1 .taken ∙ none _ _ [] _ _ refl (c .if1 .taken) (c .before .loop .inv .1)
+returns c = none _ _ [] _ _ refl (c .if1 .taken) (c .before .loop .inv .1)
 
 returns-2 : tie.Need-returns-2 Inv-loop μ-loop
 returns-2 c =

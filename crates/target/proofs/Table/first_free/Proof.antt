@@ -1,6 +1,6 @@
 -- `Table::first_free` meets its contract. The loop's invariant: no entry before place k is free. Assumes nothing.
 use Prim.Native.Nat.{_≤_, _-_}
-use mathlib.Core.Path.{_≡_, _∙_}
+use mathlib.Core.Path.{_≡_}
 use native.Mathlib.Omega.{arith}
 use borrow.Author.Needs.{needs}
 use borrow.Author.Tests.{eq-eqb, ne-eqb}
@@ -41,7 +41,7 @@ loop-again c =
 
 returns : tie.Need-returns Inv-loop μ-loop
 unfolding firstFree
-returns c = c .if1 .taken ∙ none _ _ noEntry _ 8 (c .before .loop .inv .1) (c .if1 .taken) (c .before .loop .inv .2)
+returns c = none _ _ noEntry _ 8 (c .before .loop .inv .1) (c .if1 .taken) (c .before .loop .inv .2)
 
 returns-2 : tie.Need-returns-2 Inv-loop μ-loop
 unfolding firstFree isFree
