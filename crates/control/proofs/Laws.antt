@@ -89,12 +89,12 @@ module _ (w : World) (address k : ℕ) (z : length (w .target .table .entries) �
   -- none is there: nothing is removed
   none-at : 8 ≤ k → w ≡ removedAt w address
   unfolding removedAt
-  none-at h = rw (← e, le-ltb k (length (w .target .table .entries)) (omega arith))
+  none-at h = rw (← e, z, le-ltb k 8 h)
 
   -- the one that is there is removed
   one-at : k < 8 → removed w k ≡ removedAt w address
   unfolding removedAt
-  one-at h = rw (← e, lt-ltb k (length (w .target .table .entries)) (omega arith))
+  one-at h = rw (← e, z, lt-ltb k 8 h)
 
 -- Tstart of a Stopped process, by what is found at its saved pc
 module _ (w : World) (pid i : ℕ) (e : i ≡ indexOf (w .target) pid) (l : i < w .target .count)

@@ -8,7 +8,7 @@ use borrow.Author.Tests.{not-true, not-false, lt-ltb, le-ltb, le-leb}
 use lib.Dec.{ltb, eqb}
 use lib.ListN.{getD}
 use Rattle.common.specs.Every.{every}
-use Rattle.common.proofs.Every.{every-fails, every-ext}
+use Rattle.common.proofs.Every.{every-fails, every-ext, every-done}
 use Rattle.common.proofs.Fill.{filled, fill-before}
 use Rattle.common.proofs.Same.{parts}
 use Rattle.memory.specs.Head.{Head}
@@ -25,10 +25,6 @@ answered-no r test e h = sym e ∙ not-true r h
 
 pub positive : (n : ℕ) → (n ≡ 0 → ⊥) → ltb 0 n ≡ true
 positive n h = lt-ltb 0 n (omega arith)
-
--- a loop that passed every number below n
-pub every-done : (n i : ℕ) (f : ℕ → Bool) → n ≤ i → i ≤ n → every i f ≡ true → true ≡ every n f
-every-done n i f h k e = let z : i ≡ n = omega arith in sym (rw z at e)
 
 -- ---- pids
 

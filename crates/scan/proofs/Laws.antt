@@ -9,7 +9,7 @@ use lib.Dec.{eqb}
 use lib.ListN.{length, getD, set, replicate}
 use Rattle.common.specs.Every.{every}
 use Rattle.common.specs.First.{firstOf}
-use Rattle.common.proofs.Every.{every-at, every-all, every-fails, every-more, every-ext}
+use Rattle.common.proofs.Every.{every-at, every-all, every-fails, every-more, every-done, every-ext}
 use Rattle.common.proofs.Cases.{on-test, same-eqb}
 use Rattle.common.proofs.Fill.{filled, fill-before, fill-set, fill-keep, fill-whole, fill-none}
 use Rattle.common.proofs.Same.{true-or-false, and-both, parts}
@@ -38,7 +38,7 @@ use Rattle.fit.specs.Fit.{
   Scanned,
 }
 use Rattle.fit.specs.declared.Scan.{Scan}
-use Rattle.fit.proofs.Laws.{answered-yes, every-done}
+use Rattle.fit.proofs.Laws.{answered-yes}
 use Rattle.fit.proofs.Slots.{ids-tab, sites-tab, plainByte, plains-tab}
 -- as crate breaks names them
 pub use Rattle.common.proofs.First.{first-map}

@@ -1,9 +1,9 @@
 -- Laws of the steps: the tests that every step begins with, what a request and a restart give back, and the step of each kind.
 -- Assumes nothing.
-use mathlib.Core.Path.{_≡_, refl, sym, ap, _∙_}
+use mathlib.Core.Path.{_≡_, refl, ap, _∙_}
 use mathlib.Core.Bool.{Bool, true, false, cond, not, _&&_, and-false}
 use mathlib.Core.List.{List, []}
-use Prim.Native.Nat.{ℕ}
+use Prim.Native.Nat.{ℕ, _*_}
 use borrow.Author.Tests.{eq-eqb, ne-eqb, eqb-true, not-true, not-false}
 use lib.Dec.{leb, eqb}
 use lib.ListN.{length, getD}
@@ -12,6 +12,7 @@ use Rattle.common.proofs.Same.{parts}
 use Rattle.events.proofs.Laws.{effect}
 use Rattle.fit.specs.Fit.{fitOf, Scanned}
 use Rattle.fit.specs.declared.Scan.{Scan}
+use Rattle.fit.proofs.Laws.{answered-yes, answered-no}
 use Rattle.memory.specs.Head.{house}
 use Rattle.memory.specs.Overlay.{plainOf}
 use Rattle.request.specs.Request as parsed
@@ -90,14 +91,17 @@ module _ (kind input reply : ℕ) where
     pub lent-restart : Rest kind → reply ≡ 10
     lent-restart n = eqb-true reply 10 (lent-rest n ∙ e)
 
+-- the sizes of memory and of the register area, as the code tests them
+abbrev pub sizes : World → Bool
+sizes w = eqb (length (w .mem)) (w .target .size) && eqb (length (w .regs)) (136 * w .target .count)
+
 -- past the tests, the record is fit and its buffers have their sizes
-pub ready-by : (w : World) (b : Bool) → b ≡ sized w → not b ≡ false
+pub ready-by : (w : World) (b : Bool) → b ≡ sizes w → not b ≡ false
     → (s : Scan) → Scanned (fitOf house (w .target) (w .mem)) (w .target .base) (w .target .table .entries) s → not (s .fit) ≡ false
     → Ready house (w .target) s (w .mem) (w .regs)
-unfolding sized
 ready-by w b e h s f g =
-    let fit = sym (f .holds) ∙ not-false _ g in
-    let both = sym e ∙ not-false b h in
+    let fit = answered-yes _ _ (f .holds) g in
+    let both = answered-yes _ _ e h in
     record {
       fit = fit;
       ids = f .ids fit;
@@ -133,8 +137,8 @@ module _ (kind : ℕ) (w : World) (pid value : ℕ) (input reply : List ℕ) whe
       (λ c. on-test (eqb kind 4) (λ d. rw (a, b, c, d) (leaving-checked w _ reply _)) (λ d. rw (a, b, c, d)))))
 
   -- memory or the register area has another size
-  pub wrong-size : (b : Bool) → b ≡ sized w → not b ≡ true → refused 2 w reply ≡ stepBy kind w pid value input reply
-  unfolding checked
+  pub wrong-size : (b : Bool) → b ≡ sizes w → not b ≡ true → refused 2 w reply ≡ stepBy kind w pid value input reply
+  unfolding checked sized
   wrong-size b e h = rw (← e, not-true b h) at tested
 
   -- another buffer has
@@ -145,12 +149,12 @@ module _ (kind : ℕ) (w : World) (pid value : ℕ) (input reply : List ℕ) whe
 
   module _ (lent : lentRight kind (length input) (length reply) ≡ true) where
     -- the record is not fit
-    pub unfit : (b : Bool) → b ≡ sized w → not b ≡ false
+    pub unfit : (b : Bool) → b ≡ sizes w → not b ≡ false
         → (s : Scan) → Scanned (fitOf house (w .target) (w .mem)) (w .target .base) (w .target .table .entries) s → not (s .fit) ≡ true
         → refused 3 w reply ≡ stepBy kind w pid value input reply
-    unfolding checked
+    unfolding checked sized
     unfit b e h s f g =
-        let u : fitOf house (w .target) (w .mem) ≡ false = sym (f .holds) ∙ not-true _ g in
+        let u : fitOf house (w .target) (w .mem) ≡ false = answered-no _ _ (f .holds) g in
         rw (← e, not-false b h, lent, u) at tested
 
     -- and the step is taken

@@ -1,16 +1,14 @@
 -- `steps::step` meets its contract: each refusal is the definition's, in its order, then each arm is the step of its kind. Assumes nothing.
-use mathlib.Core.Path.{_≡_, sym, _∙_}
+use mathlib.Core.Path.{_≡_, _∙_}
 use mathlib.Core.Bool.{true}
 use borrow.Author.Needs.{needs}
-use borrow.Author.Tests.{not-false}
 use denote.Ref.{now}
 use lib.ListN.{length}
-use Rattle.fit.proofs.Laws.{fit-few}
+use Rattle.fit.proofs.Laws.{answered-yes, fit-few}
 use Rattle.memory.specs.Head.{house}
 use Rattle.events.proofs.Laws.{refuses}
 use Rattle.rules.specs.Outcome.{world}
 use Rattle.rules.specs.Ready.{Ready}
-use Rattle.rules.specs.Step.{sized}
 use Rattle.steps.specs.Kinds.{lentRight}
 use Rattle.steps.proofs.Laws.{ready-by, lent-request, lent-trap, lent-schedule, lent-restart, wrong-size, wrong-lent, unfit}
 use Rattle.steps.proofs.Laws.{leaves, takes-request, takes-trap, takes-schedule, takes-state, takes-restart}
@@ -22,18 +20,17 @@ abbrev start : tie.After-sizes-right → tie.Start
 start z = z .before .before .before .before .before
 
 -- and where they are found right, from where the record is
-abbrev right : tie.After-struct-known → tie.Else1
-right k = k .before .before .before .before .before
+abbrev sized : tie.After-struct-known → tie.Else1
+sized k = k .before .before .before .before .before
 
 lent : (k : tie.After-struct-known)
-    → let a = start (right k .before) .args in lentRight (a .kind) (length (now (a .input))) (length (now (a .reply))) ≡ true
-lent k = let l = k .before .before .before in sym (l .before .lent-right .ensures) ∙ not-false _ (l .if2 .left)
+    → let a = start (sized k .before) .args in lentRight (a .kind) (length (now (a .input))) (length (now (a .reply))) ≡ true
+lent k = let l = k .before .before .before in answered-yes _ _ (l .before .lent-right .ensures) (l .if2 .left)
 
 ready : (q : tie.Else3)
-    → let a = start (right (q .before) .before) .args in Ready house (a .t) (q .before .before .check .result) (now (a .mem)) (now (a .regs))
-unfolding sized
+    → let a = start (sized (q .before) .before) .args in Ready house (a .t) (q .before .before .check .result) (now (a .mem)) (now (a .regs))
 ready q =
-    let z = right (q .before) in
+    let z = sized (q .before) in
     let a = start (z .before) .args in
     ready-by (world (a .t) (now (a .mem)) (now (a .regs))) _ (z .before .sizes-right .ensures) (z .if1 .left) _
     (q .before .before .check .ensures) (q .if3 .left)
@@ -45,7 +42,6 @@ keeping-requires : tie.Need-keeping-requires
 keeping-requires c κs = search needs
 
 returns : tie.Need-returns
-unfolding sized
 returns c =
     let z = c .before in
     refuses _ _ _ 2 (c .keeping .ensures) ∙ wrong-size _ _ _ _ _ _ _ (z .before .sizes-right .ensures) (z .if1 .taken)
@@ -71,10 +67,9 @@ same-length : tie.Need-same-length
 same-length c = search needs
 
 returns-3 : tie.Need-returns-3
-unfolding sized
 returns-3 c =
     let k = c .before .before in
-    let z = right k in
+    let z = sized k in
     refuses _ _ _ 3 (c .keeping3 .ensures)
     ∙ unfit _ _ _ _ _ _ (lent k) _ (z .before .sizes-right .ensures) (z .if1 .left) _ (k .before .check .ensures) (c .before .if3 .taken)
 
