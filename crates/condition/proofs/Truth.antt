@@ -1,11 +1,9 @@
 -- Laws of the truth of a condition: the definitions case by case, as the code comes to them. Assumes nothing.
 use mathlib.Core.Path.{_≡_, refl, sym, ap, _∙_}
-use mathlib.Core.Bool.{Bool, true, false, not, _&&_, _||_}
+use mathlib.Core.Bool.{Bool, true, false, _&&_, _||_}
 use mathlib.Core.List.{List, [], _∷_}
 use Prim.Native.Nat.{ℕ, _+_, _-_, _<_, _≤_}
 use borrow.Author.Tests.{ne-eqb, le-leb, lt-leb}
-use lib.Bits.{bitAnd}
-use lib.Dec.{eqb}
 use lib.ListN.{length, getD, take, drop}
 use Rattle.common.specs.Bytes.{ofHighFirst}
 use Rattle.memory.specs.Head.{house}
@@ -23,22 +21,6 @@ use Rattle.condition.proofs.Depth.{next-element, no-element}
 -- ---- one value of two
 
 module _ (letter x y r : ℕ) where
-  pub join-bits : letter ≡ 38 → r ≡ bitAnd x y → r ≡ joinOf letter x y
-  unfolding joinOf
-  join-bits e h = rw e h
-
-  pub join-eq : letter ≡ 61 → r ≡ flag (eqb x y) → r ≡ joinOf letter x y
-  unfolding joinOf
-  join-eq e h = rw e h
-
-  pub join-ne : letter ≡ 33 → r ≡ flag (not (eqb x y)) → r ≡ joinOf letter x y
-  unfolding joinOf
-  join-ne e h = rw e h
-
-  pub join-and : (f : Bool) → letter ≡ 97 → f ≡ (truth x && truth y) → r ≡ flag f → r ≡ joinOf letter x y
-  unfolding joinOf
-  join-and f e g h = rw (e, ← g) h
-
   pub join-or : (f : Bool) → (letter ≡ 38 → ⊥) → (letter ≡ 61 → ⊥) → (letter ≡ 33 → ⊥) → (letter ≡ 97 → ⊥)
       → f ≡ (truth x || truth y) → r ≡ flag f → r ≡ joinOf letter x y
   unfolding joinOf
