@@ -1,15 +1,14 @@
 -- Laws of the current process's block, of a record that is ready, and of what a read answers and a write leaves. Assumes nothing.
 use mathlib.Core.Path.{_≡_, refl, sym, ap, _∙_}
-use mathlib.Core.Bool.{Bool, true, false, cond, _&&_}
+use mathlib.Core.Bool.{Bool, true, false, cond}
 use mathlib.Core.List.{List}
 use Prim.Native.Nat.{ℕ, _+_, _-_, _*_, _<_, _≤_}
 use native.Mathlib.Omega.{arith}
-use borrow.Author.Tests.{eq-eqb, ne-eqb, le-leb, lt-leb, ltb-true, leb-true}
-use lib.Dec.{eqb, ltb, leb}
+use borrow.Author.Tests.{eq-eqb, ne-eqb, le-leb, lt-leb, ltb-true}
+use lib.Dec.{eqb, ltb}
 use lib.ListN.{length, take, replicate}
 use mir.Val.{Val}
 use denote.Laws.{Is}
-use Rattle.common.specs.Every.{every}
 use Rattle.common.specs.Same.{sameList}
 use Rattle.common.proofs.Same.{and-both, same-eq}
 use Rattle.common.proofs.Tab.{length-tab}
@@ -18,8 +17,10 @@ use Rattle.memory.specs.Place.{placeOf}
 use Rattle.memory.specs.declared.Place.{Place}
 use Rattle.memory.specs.declared.Place.the-variants.{Registers, Window}
 use Rattle.memory.specs.Write.{bytesAt, readOf, overwritten, memAfter, plainAfter}
-use Rattle.fit.specs.Fit.{processAt, entryAt, pidFit, processesFit, currentFit}
+use Rattle.fit.specs.Fit.{processAt, currentFit}
 use Rattle.fit.specs.declared.Scan.{Scan}
+use Rattle.fit.proofs.Laws.{fit-few}
+use Rattle.fit.proofs.Slots.{TwoEach, sixteen-plains, eight-entries, two-each}
 use Rattle.rules.specs.declared.Answer.the-variants.{Nothing}
 use Rattle.rules.specs.declared.Change.the-variants.{Plain}
 use Rattle.rules.specs.Breakpoint.{sites, plains}
@@ -29,10 +30,9 @@ use Rattle.rules.specs.Outcome.{World, world, Outcome, outcome, replied, error}
 use Rattle.rules.specs.Ready.{Ready}
 use Rattle.rules.specs.Record.{withTable, withEntries, indexOf, isStopped}
 use Rattle.rules.specs.Request.{onBlock, data9Of, gotFrom, mget, mput, withPlains, windowWritten, putTo}
-use Rattle.rules.specs.Slots.{TwoEach, length-plains, with-plains}
+use Rattle.rules.specs.Slots.{with-plains}
 use Rattle.target.specs.declared.Entry.{Entry}
 use Rattle.target.specs.declared.Target.{Target}
-use Rattle.target.proofs.Shape.{entry-shape, table-entries, table-entry, target-table}
 use Rattle.target.proofs.Target as target
 use Rattle.wire.specs.Message.{bytes4, bytesOf}
 use Rattle.wire.specs.declared.Data4.{Data4}
@@ -60,13 +60,13 @@ module _ (t : Target) where
     block-running e = rw (ne-eqb (t .selected) 0 h, ← q, ne-eqb (processAt (t .processes) i .state) 8 e)
 
 -- what is done on a block: it is served, or refused for a reason
-unfoldable pub onIt : Block → World → (ℕ → Outcome) → Outcome
+unfoldable onIt : Block → World → (ℕ → Outcome) → Outcome
 onIt (At i) w serve = serve i
 onIt (Refused r) w serve = error r w
 
-pub on-it : (w : World) (serve : ℕ → Outcome) (b : Block) → b ≡ blockOf (w .target) → onIt b w serve ≡ onBlock w serve
+on-it : (w : World) (serve : ℕ → Outcome) (b c : Block) → c ≡ blockOf (w .target) → c ≡ b → onIt b w serve ≡ onBlock w serve
 unfolding onBlock blockOf onIt
-on-it w serve b e = rw e (by (eqb (t .selected) 0) (isStopped (processAt (t .processes) i)))
+on-it w serve b c f e = rw (sym e ∙ f) (by (eqb (t .selected) 0) (isStopped (processAt (t .processes) i)))
   where
     t : Target
     t = w .target
@@ -86,30 +86,19 @@ at-index false true i k e = (refl, cc)
 at-index false false i k e = (cc, cc)
 
 -- the current process's block is one of the register area
-pub block-within : (t : Target) (regs : List ℕ) (i : ℕ) → Listed t regs → At i ≡ blockOf t → 136 * i + 136 ≤ length regs
+pub block-within : (t : Target) (regs : List ℕ) → Listed t regs → (b : Block) (i : ℕ) → b ≡ blockOf t → b ≡ At i → 136 * i + 136 ≤ length regs
 unfolding blockOf currentFit
-block-within t regs i l e =
+block-within t regs l b i f e =
     let k = indexOf t (t .current) in
-    let a = at-index (eqb (t .selected) 0) (isStopped (processAt (t .processes) k)) i k e in
+    let a = at-index (eqb (t .selected) 0) (isStopped (processAt (t .processes) k)) i k (sym e ∙ f) in
     let h = and-both (eqb (t .selected) 1) (ltb k (t .count)) (rw (a .0) at (l .current)) in
     omega (arith, ltb-true k (t .count) (h .1))
 
 -- ---- a record that is ready
 
 module _ (t : Target) (s : Scan) (mem regs : List ℕ) (r : Ready house t s mem regs) where
-  few : (1 ≤ t .count) × (t .count ≤ 4)
-  unfolding processesFit
-  few =
-      let n = t .count in
-      let e = tests-of t mem (r .fit) .processes in
-      let b = and-both (leb 1 n) (leb n 4) (and-both (leb 1 n && leb n 4) (every n (pidFit (t .processes))) e .0) in
-      (leb-true 1 n (b .0), leb-true n 4 (b .1))
-
-  pub ready-some : 1 ≤ t .count
-  ready-some = few .0
-
   pub ready-listed : Listed t regs
-  ready-listed = record { few = few .1; registers = r .registers; current = tests-of t mem (r .fit) .current }
+  ready-listed = record { few = fit-few house t mem (r .fit); registers = r .registers; current = tests-of t mem (r .fit) .current }
 
 -- ---- the replies
 
@@ -124,10 +113,10 @@ module _ (w : World) (reply : List ℕ) where
     unfolding replied
     answers l h = rw (e, h)
 
-    pub got-block : (i : ℕ) → At i ≡ blockOf (w .target) → got ≡ bytesAt (w .regs) (136 * i + addr) n 9
+    pub got-block : (b : Block) (i : ℕ) → b ≡ blockOf (w .target) → b ≡ At i → got ≡ bytesAt (w .regs) (136 * i + addr) n 9
         → outcome 0 Nothing w reply ≡ gotFrom Registers w addr n
     unfolding gotFrom onIt
-    got-block i b h = answers _ h ∙ on-it w _ (At i) b
+    got-block b i f t h = answers _ h ∙ on-it w _ (At i) b f t
 
     pub got-window : got ≡ readOf 2 (sites (w .target)) (plains (w .target)) (w .mem) (addr - w .target .base) n 9
         → outcome 0 Nothing w reply ≡ gotFrom Window w addr n
@@ -139,9 +128,9 @@ module _ (w : World) (reply : List ℕ) where
     got-none h z = rw (eq-eqb n 0 z) (answers _ h)
 
 module _ (w : World) (addr n : ℕ) where
-  pub got-refused : (r : Reason) → Refused r ≡ blockOf (w .target) → error r w ≡ gotFrom Registers w addr n
+  pub got-refused : (b : Block) (r : Reason) → b ≡ blockOf (w .target) → b ≡ Refused r → error r w ≡ gotFrom Registers w addr n
   unfolding gotFrom onIt
-  got-refused r b = on-it w _ (Refused r) b
+  got-refused b r f t = on-it w _ (Refused r) b f t
 
   -- what is got from the place that the address names
   pub got-from : (n ≡ 0 → ⊥) → (q : Place) → placeOf (w .target .base) (w .target .size) addr n ≡ q
@@ -151,18 +140,9 @@ module _ (w : World) (addr n : ℕ) where
 
 -- ---- the plain bytes of a record's table
 
--- every entry of a record of the code has two plain bytes
-pub two-each : (t : Target) (vs : List Val) → Is target.the-row t vs → TwoEach (t .table .entries)
-two-each t vs h k l =
-    let (_, u) = target-table t vs h in
-    let (_, e) = table-entry (t .table) _ k u (omega (arith, table-entries (t .table) _ u)) in
-    entry-shape (entryAt (t .table .entries) k) _ e .plain
-
--- so a scan's plain bytes are sixteen, before a write and after it
+-- a scan's plain bytes are sixteen, before a write and after it
 pub sixteen : (t : Target) (vs : List Val) (s : Scan) (mem regs : List ℕ) → Is target.the-row t vs → Ready house t s mem regs → 16 ≡ length (s .plain)
-sixteen t vs s mem regs h r =
-    let (_, u) = target-table t vs h in
-    omega (arith, ap length (r .plain), length-plains (t .table .entries) (two-each t vs h), table-entries (t .table) _ u)
+sixteen t vs s mem regs h r = sym (ap length (r .plain) ∙ sixteen-plains (t .table .entries) (eight-entries t vs h) (two-each t vs h))
 
 pub length-after : (w : ℕ) (ss ps : List ℕ) (at : ℕ) (bytes plain : List ℕ) → plain ≡ plainAfter w ss ps at bytes → length ps ≡ length plain
 unfolding plainAfter
@@ -176,15 +156,15 @@ module _ (w : World) (addr : ℕ) (bytes : List ℕ) where
   unfolding putTo
   put-zero h = rw (le-leb addr 3 h)
 
-  pub put-refused : 3 < addr → (r : Reason) → Refused r ≡ blockOf (w .target) → error r w ≡ putTo Registers w addr bytes
+  pub put-refused : 3 < addr → (b : Block) (r : Reason) → b ≡ blockOf (w .target) → b ≡ Refused r → error r w ≡ putTo Registers w addr bytes
   unfolding putTo onIt
-  put-refused h r b = rw (lt-leb addr 3 h) (on-it w _ (Refused r) b)
+  put-refused h b r f t = rw (lt-leb addr 3 h) (on-it w _ (Refused r) b f t)
 
-  pub put-block : 3 < addr → (i : ℕ) → At i ≡ blockOf (w .target) → (regs reply : List ℕ)
+  pub put-block : 3 < addr → (b : Block) (i : ℕ) → b ≡ blockOf (w .target) → b ≡ At i → (regs reply : List ℕ)
       → regs ≡ overwritten (w .regs) (136 * i + addr) bytes → reply ≡ bytesOf Rmput
       → outcome 0 Nothing (world (w .target) (w .mem) regs) reply ≡ putTo Registers w addr bytes
   unfolding putTo replied onIt
-  put-block h i b regs reply e r = rw (e, r, lt-leb addr 3 h) (on-it w _ (At i) b)
+  put-block h b i f t regs reply e r = rw (e, r, lt-leb addr 3 h) (on-it w _ (At i) b f t)
 
   module _ (ss ps : List ℕ) (e : ss ≡ sites (w .target)) (f : ps ≡ plains (w .target)) (mem plain reply : List ℕ)
       (m : mem ≡ memAfter 2 ss (w .mem) (addr - w .target .base) bytes) (p : plain ≡ plainAfter 2 ss ps (addr - w .target .base) bytes)

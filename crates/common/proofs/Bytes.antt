@@ -1,4 +1,4 @@
--- Laws of numbers as bytes, once for every width: both round trips, lengths and ranges. Assumes nothing.
+-- Laws of numbers as bytes, once for every width: both round trips, and ranges. Assumes nothing.
 use mathlib.Core.Path.{_≡_, refl, sym, ap, _∙_}
 use mathlib.Core.Bool.{true}
 use mathlib.Core.List.{List, [], _∷_, map, reverse, reverseAux, reverse-reverse}
@@ -50,16 +50,7 @@ high-bytes l h =
     ∙ ap reverse (low-bytes (reverse l) (bytes-reverse l h))
     ∙ reverse-reverse l
 
--- ---- lengths and ranges
-
-pub length-low : (k n : ℕ) → length (lowFirst k n) ≡ k
-unfolding lowFirst
-length-low zero n = refl
-length-low (suc k) n = ap suc (length-low k (n / 256))
-
-pub length-high : (k n : ℕ) → length (highFirst k n) ≡ k
-unfolding highFirst
-length-high k n = length-reverse (lowFirst k n) ∙ length-low k n
+-- ---- ranges
 
 pub low-are-bytes : (k n : ℕ) → Bytes (lowFirst k n)
 unfolding lowFirst Bytes

@@ -1,7 +1,7 @@
 -- Laws of a test at every number below a bound, for computed tables and for loops. Assumes nothing.
 use mathlib.Core.Path.{_≡_, refl, sym, _∙_}
 use mathlib.Core.Bool.{Bool, true, false}
-use Prim.Native.Nat.{ℕ, zero, suc, _+_, _<_}
+use Prim.Native.Nat.{ℕ, zero, suc, _+_, _<_, _≤_}
 use native.Mathlib.Nat.{not-suc-le-zero}
 use native.Mathlib.Numerals.{add-one}
 use native.Mathlib.Omega.{arith}
@@ -31,6 +31,10 @@ every-fails n f k h e = on-test (every n f) (λ q. true-or-false (sym e ∙ ever
 pub every-more : (n : ℕ) (f : ℕ → Bool) → every n f ≡ true → f n ≡ true → every (n + 1) f ≡ true
 unfolding every
 every-more n f e h = rw (add-one, e, h)
+
+-- every number below n is passed
+pub every-done : (n i : ℕ) (f : ℕ → Bool) → n ≤ i → i ≤ n → every i f ≡ true → true ≡ every n f
+every-done n i f h k e = let z : i ≡ n = omega arith in sym (rw z at e)
 
 -- two tests that agree below n
 pub every-ext : (n : ℕ) (f g : ℕ → Bool) → ((k : ℕ) → k < n → f k ≡ g k) → every n f ≡ every n g

@@ -18,9 +18,6 @@ module _ {A : Type 0} (f g : ℕ → A) (n m : ℕ) where
   pub fill-before : {l : List A} → l ≡ filled f g n m → (d : A) (k : ℕ) → k < n → k < m → getD l k d ≡ f k
   fill-before e d k h b = rw e (tab-at m _ d k b ∙ rw (lt-ltb k n h))
 
-  pub fill-after : {l : List A} → l ≡ filled f g n m → (d : A) (k : ℕ) → n ≤ k → k < m → getD l k d ≡ g k
-  fill-after e d k h b = rw e (tab-at m _ d k b ∙ rw (le-ltb k n h))
-
   -- the other places are as they were
   other : (k : ℕ) → (k ≡ n → ⊥) → cond (ltb k n) (f k) (g k) ≡ cond (ltb k (n + 1)) (f k) (g k)
   other k s =

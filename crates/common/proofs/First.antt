@@ -12,28 +12,28 @@ use lib.Seq.{drop-cons}
 use Rattle.common.specs.First.{firstOf}
 use Rattle.common.proofs.Cases.{on-test, choose, either}
 
--- the loop's invariant: the test fails at every place before k
-abbrev pub Passed : {A : Type 0} → (A → Bool) → List A → ℕ → Type 0
-Passed f l k = firstOf f l ≡ k + firstOf f (drop k l)
+-- the loop's invariant: of n places it is at k, and the test fails at every one before
+abbrev pub Passed : {A : Type 0} → (A → Bool) → List A → ℕ → ℕ → Type 0
+Passed f l n k = (k ≤ n) × (length l ≡ n) × (firstOf f l ≡ k + firstOf f (drop k l))
 
-pub begin : {A : Type 0} (f : A → Bool) (l : List A) → Passed f l 0
-begin f l = sym (zero-add (firstOf f l))
+pub begin : {A : Type 0} (f : A → Bool) (l : List A) (n : ℕ) → length l ≡ n → Passed f l n 0
+begin f l n z = (omega arith, z, sym (zero-add (firstOf f l)))
 
-module _ {A : Type 0} (f : A → Bool) (l : List A) (d : A) (k n : ℕ) (z : length l ≡ n) where
+module _ {A : Type 0} (f : A → Bool) (l : List A) (d : A) (n k : ℕ) (p : Passed f l n k) where
   -- the test fails at k: one place more is passed
-  pub pass : k < n → f (getD l k d) ≡ false → Passed f l k → Passed f l (k + 1)
+  pub pass : k < n → f (getD l k d) ≡ false → Passed f l n (k + 1)
   unfolding firstOf
-  pass h u p = p ∙ rw (add-one, drop-cons l k d (omega arith), u, add-suc, suc-add)
+  pass h u = (omega arith, p .1, p .2 ∙ rw (add-one, drop-cons l k d (omega (arith, p .1)), u, add-suc, suc-add))
 
   -- the test holds at k: k is the first place
-  pub stop : k < n → f (getD l k d) ≡ true → Passed f l k → k ≡ firstOf f l
+  pub stop : k < n → f (getD l k d) ≡ true → k ≡ firstOf f l
   unfolding firstOf
-  stop h u p = sym (p ∙ rw (drop-cons l k d (omega arith), u, add-zero))
+  stop h u = sym (p .2 ∙ rw (drop-cons l k d (omega (arith, p .1)), u, add-zero))
 
   -- every place is passed: the test holds at none
-  pub none : k ≡ n → Passed f l k → n ≡ firstOf f l
+  pub none : k ≡ n → k ≡ firstOf f l
   unfolding firstOf
-  none h p = sym (p ∙ rw (drop-of-length-le l {i = k} (omega arith), add-zero) h)
+  none h = sym (p .2 ∙ rw (drop-of-length-le l {i = k} (omega (arith, p .1)), add-zero))
 
 -- the place is within the list, or is its length
 pub first-within : {A : Type 0} (f : A → Bool) (l : List A) → firstOf f l ≤ length l

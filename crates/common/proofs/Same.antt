@@ -7,7 +7,7 @@ use native.Mathlib.Numerals.{add-one}
 use native.Mathlib.Omega.{arith}
 use borrow.Author.Tests.{ltb-true, leb-true, eqb-true, eq-eqb, ne-eqb}
 use lib.Dec.{eqb}
-use lib.ListN.{length, getD, drop, drop-of-length-le}
+use lib.ListN.{length, getD, drop, replicate, drop-of-length-le, length-replicate, getD-replicate}
 use lib.Seq.{drop-cons}
 use Rattle.common.specs.Same.{sameList, allZero}
 use Rattle.common.proofs.Cases.{on-test}
@@ -80,25 +80,31 @@ module _ (l k : List ℕ) (i : ℕ) (z : length l ≡ length k) where
   unfolding sameList
   agree-all h a = sym (a ∙ rw (drop-of-length-le l {i = i} h, drop-of-length-le k {i = i} (omega arith)))
 
--- ---- a loop that looks for a byte that is not zero. Its invariant: all before place i are zero
+-- ---- a loop that looks for a byte that is not zero: one over the list and as many zeros
+
+zeros-same : (l : List ℕ) → sameList l (replicate (length l) 0) ≡ allZero l
+unfolding sameList allZero
+zeros-same [] = refl
+zeros-same (x ∷ xs) = rw (zeros-same xs)
 
 abbrev pub Zeros : List ℕ → ℕ → Type 0
-Zeros l i = allZero l ≡ allZero (drop i l)
+Zeros l i = Agreed l (replicate (length l) 0) i
 
 module _ (l : List ℕ) (i : ℕ) where
-  zero-step : i < length l → allZero (drop i l) ≡ (eqb (getD l i 0) 0 && allZero (drop (i + 1) l))
-  unfolding allZero
-  zero-step h = rw (add-one, drop-cons l i 0 h)
+  abbrev zeros : List ℕ
+  zeros = replicate (length l) 0
+
+  size : length l ≡ length zeros
+  size = sym (length-replicate (length l) 0)
 
   -- zero at i: zero before the next place
   pub zero-more : i < length l → getD l i 0 ≡ 0 → Zeros l i → Zeros l (i + 1)
-  zero-more h e a = a ∙ zero-step h ∙ rw (eq-eqb _ _ e)
+  zero-more h e = agree l zeros i size h (e ∙ sym (getD-replicate (length l) i 0 0 h))
 
   -- not zero at i: not all are zero
   pub zero-stop : i < length l → (getD l i 0 ≡ 0 → ⊥) → Zeros l i → false ≡ allZero l
-  zero-stop h n a = sym (a ∙ zero-step h ∙ rw (ne-eqb _ _ n))
+  zero-stop h n a = differ l zeros i size h (λ e. n (e ∙ getD-replicate (length l) i 0 0 h)) a ∙ zeros-same l
 
   -- every place is passed: all are zero
   pub zero-all : length l ≤ i → Zeros l i → true ≡ allZero l
-  unfolding allZero
-  zero-all h a = sym (a ∙ rw (drop-of-length-le l {i = i} h))
+  zero-all h a = agree-all l zeros i size h a ∙ zeros-same l

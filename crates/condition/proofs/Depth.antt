@@ -1,22 +1,23 @@
 -- Laws of the elements of a condition taken one after the other, of the depth, and of one element more. Assumes nothing.
 use mathlib.Core.Path.{_≡_, refl, sym, _∙_}
-use mathlib.Core.Bool.{Bool, true, false, cond}
+use mathlib.Core.Bool.{true, cond}
 use mathlib.Core.List.{List, [], _∷_}
 use Prim.Native.Nat.{ℕ, _+_, _-_, _<_, _≤_}
 use native.Mathlib.Numerals.{add-one}
 use native.Mathlib.Omega.{arith}
-use borrow.Author.Tests.{ne-eqb, le-leb, lt-leb}
+use borrow.Author.Tests.{eqb-true, ne-eqb, le-leb, lt-leb}
 use lib.Dec.{eqb}
 use lib.ListN.{length, getD, take, drop, drop-of-length-le}
 use lib.Seq.{drop-cons, getD-take, length-take-le}
 use types.Run.{OneOf}
 use Rattle.common.specs.Keys.{among, byKeys}
 use Rattle.common.specs.Text.{codes}
+use Rattle.common.proofs.Cases.{on-less, either}
 use Rattle.common.proofs.Keys.{at-keys, among-no, among-none, chosen}
 use Rattle.target.specs.declared.Element.{Element}
 use Rattle.target.specs.declared.Draft.{Draft}
 use Rattle.target.specs.Fresh.{noElement}
-use Rattle.condition.specs.Depth.{depthAfter, depthFrom, depthOf}
+use Rattle.condition.specs.Depth.{depthAfter, depthFrom, depthOf, wellFormed}
 use Rattle.condition.specs.Add.{roomFor, withElement, addedBy, addOf}
 use Rattle.condition.specs.declared.Room.the-variants.{Fits, Full, Short}
 
@@ -91,19 +92,23 @@ pub too-many : (l : List Element) (n : ℕ) → 16 < n → 0 ≡ depthOf l n
 unfolding depthOf
 too-many l n h = rw (lt-leb n 16 h)
 
+-- a well-formed condition has at most sixteen elements
+pub formed-few : (l : List Element) (n : ℕ) → wellFormed l n ≡ true → n ≤ 16
+unfolding wellFormed
+formed-few l n e = on-less 16 n (λ h. absurd (omega (arith, too-many l n h, eqb-true (depthOf l n) 1 e))) (λ h. h)
+
 -- ---- a bound: an element adds one at most
 
 after-le : (d letter value : ℕ) → depthAfter d letter value ≤ d + 1
 unfolding depthAfter
 after-le d letter value =
-    by (eqb d 0) 0 _ (omega arith)
-    (chosen (λ r. r ≤ d + 1) _ 0 letter
-    (omega arith, (by (eqb value 0) d 0 (omega arith) (omega arith), (by (eqb value 0) (d - 1) 0 (omega arith) (omega arith), tt)))
+    either few (eqb d 0) {a = 0} (omega arith)
+    (chosen few _ 0 letter
+    (omega arith, (either few (eqb value 0) {a = d} {b = 0} (omega arith) (omega arith), (either few (eqb value 0) {a = d - 1} {b = 0} (omega arith) (omega arith), tt)))
     (omega arith))
   where
-    by : (z : Bool) (a b : ℕ) → a ≤ d + 1 → b ≤ d + 1 → cond z a b ≤ d + 1
-    by true a b h k = h
-    by false a b h k = k
+    few : ℕ → Type 0
+    few r = r ≤ d + 1
 
 from-le : (d : ℕ) (l : List Element) → depthFrom d l ≤ d + length l
 unfolding depthFrom

@@ -1,11 +1,9 @@
 -- Laws of the truth of a condition: the definitions case by case, as the code comes to them. Assumes nothing.
-use mathlib.Core.Path.{_≡_, sym, ap, _∙_}
-use mathlib.Core.Bool.{Bool, true, false, not, _&&_, _||_}
+use mathlib.Core.Path.{_≡_, refl, sym, ap, _∙_}
+use mathlib.Core.Bool.{Bool, true, false, _&&_, _||_}
 use mathlib.Core.List.{List, [], _∷_}
 use Prim.Native.Nat.{ℕ, _+_, _-_, _<_, _≤_}
 use borrow.Author.Tests.{ne-eqb, le-leb, lt-leb}
-use lib.Bits.{bitAnd}
-use lib.Dec.{eqb}
 use lib.ListN.{length, getD, take, drop}
 use Rattle.common.specs.Bytes.{ofHighFirst}
 use Rattle.memory.specs.Head.{house}
@@ -23,22 +21,6 @@ use Rattle.condition.proofs.Depth.{next-element, no-element}
 -- ---- one value of two
 
 module _ (letter x y r : ℕ) where
-  pub join-bits : letter ≡ 38 → r ≡ bitAnd x y → r ≡ joinOf letter x y
-  unfolding joinOf
-  join-bits e h = rw e h
-
-  pub join-eq : letter ≡ 61 → r ≡ flag (eqb x y) → r ≡ joinOf letter x y
-  unfolding joinOf
-  join-eq e h = rw e h
-
-  pub join-ne : letter ≡ 33 → r ≡ flag (not (eqb x y)) → r ≡ joinOf letter x y
-  unfolding joinOf
-  join-ne e h = rw e h
-
-  pub join-and : (f : Bool) → letter ≡ 97 → f ≡ (truth x && truth y) → r ≡ flag f → r ≡ joinOf letter x y
-  unfolding joinOf
-  join-and f e g h = rw (e, ← g) h
-
   pub join-or : (f : Bool) → (letter ≡ 38 → ⊥) → (letter ≡ 61 → ⊥) → (letter ≡ 33 → ⊥) → (letter ≡ 97 → ⊥)
       → f ≡ (truth x || truth y) → r ≡ flag f → r ≡ joinOf letter x y
   unfolding joinOf
@@ -60,6 +42,12 @@ module _ (x y : ℕ) (f : Bool) where
 
 -- ---- one element
 
+-- each letter that joins nothing, and any other
+by-letter : (letter : ℕ) (P : ℕ → Type 0) → P 107 → P 112 → P 42
+    → ((letter ≡ 107 → ⊥) → (letter ≡ 112 → ⊥) → (letter ≡ 42 → ⊥) → P letter) → P letter
+by-letter letter P k p l other =
+    on-same letter 107 (λ e. rw e k) (λ a. on-same letter 112 (λ e. rw e p) (λ b. on-same letter 42 (λ e. rw e l) (other a b)))
+
 module _ (read : ℕ → Fetched) (pid letter value : ℕ) (st : List ℕ) where
   -- the value that it puts on the stack, or a read outside the window
   abbrev pub given : Fetched
@@ -71,18 +59,15 @@ module _ (read : ℕ → Fetched) (pid letter value : ℕ) (st : List ℕ) where
   pub given-outside : escapes read letter st ≡ isOutside given
   unfolding escapes isOutside valueOf
   given-outside =
-      on-same letter 107 (λ e. rw e)
-      (λ a. on-same letter 112 (λ e. rw e)
-      (λ b. on-same letter 42 (λ e. rw e)
-      (λ c. rw (ne-eqb letter 107 a, ne-eqb letter 112 b, ne-eqb letter 42 c))))
+      by-letter letter (λ x. escapes read x st ≡ isOutside (valueOf read pid x value (top (rest st)) (top st))) refl refl refl
+      (λ a b c. rw (ne-eqb letter 107 a, ne-eqb letter 112 b, ne-eqb letter 42 c))
 
   pub given-word : stackAfter read pid letter value st ≡ wordOf given ∷ leftBy letter st
   unfolding stackAfter wordOf valueOf leftBy
   given-word =
-      on-same letter 107 (λ e. rw e)
-      (λ a. on-same letter 112 (λ e. rw e)
-      (λ b. on-same letter 42 (λ e. rw e)
-      (λ c. rw (ne-eqb letter 107 a, ne-eqb letter 112 b, ne-eqb letter 42 c))))
+      by-letter letter
+      (λ x. stackAfter read pid x value st ≡ wordOf (valueOf read pid x value (top (rest st)) (top st)) ∷ leftBy x st) refl refl refl
+      (λ a b c. rw (ne-eqb letter 107 a, ne-eqb letter 112 b, ne-eqb letter 42 c))
 
   module _ (found : Fetched) (is : found ≡ given) where
     pub got-outside : found ≡ Outside → true ≡ escapes read letter st

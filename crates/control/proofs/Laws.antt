@@ -1,19 +1,17 @@
 -- Laws of the requests on a process: whether it is listed, its state, its saved pc and the breakpoint there. Assumes nothing.
 use mathlib.Core.Path.{_≡_, ap}
-use mathlib.Core.Bool.{true, false, cond}
+use mathlib.Core.Bool.{false, cond}
 use mathlib.Core.List.{List, [], _∷_}
 use Prim.Native.Nat.{ℕ, _+_, _*_, _<_, _≤_}
 use native.Mathlib.Omega.{arith}
 use borrow.Author.Tests.{lt-ltb, le-ltb, eq-eqb, ne-eqb}
 use lib.ListN.{length, getD, replicate}
-use lib.Seq.{getD-take, getD-drop}
 use Rattle.common.specs.Bytes.{ofHighFirst}
-use Rattle.fit.specs.Fit.{stopped, processAt, entryAt, fitOf}
-use Rattle.memory.specs.Head.{house}
+use Rattle.common.proofs.Lists.{part-at}
+use Rattle.fit.specs.Fit.{stopped, processAt, entryAt}
+use Rattle.fit.proofs.Laws.{pid-missing, pid-listed}
 use Rattle.rules.specs.Breakpoint.{breakpointAt, removed, removedAt}
 use Rattle.rules.specs.Change.{without, applied}
-use Rattle.rules.specs.Facts.{Facts}
-use Rattle.rules.specs.FitFacts.{tests-of, facts-by}
 use Rattle.rules.specs.Found.{at-used}
 use Rattle.rules.specs.Outcome.{World, world, Outcome, replied, error}
 use Rattle.rules.specs.Ready.{served}
@@ -43,13 +41,13 @@ module _ (w : World) (pid i : ℕ) (e : i ≡ indexOf (w .target) pid) where
   -- it is not: Rerr pid
   pub unlisted : w .target .count ≤ i → (serve : ℕ → Process → Outcome) → error Pid w ≡ onProcess w pid serve
   unfolding onProcess
-  unlisted h serve = rw (← e, le-ltb i (w .target .count) h)
+  unlisted h serve = pid-missing _ _ _ _ e serve _ h
 
   module _ (h : i < w .target .count) where
     -- it is: what the request says of its process
     pub listed : (serve : ℕ → Process → Outcome) → serve i (processAt (w .target .processes) i) ≡ onProcess w pid serve
     unfolding onProcess
-    listed serve = rw (← e, lt-ltb i (w .target .count) h)
+    listed serve = pid-listed _ _ _ _ e serve _ h
 
     -- Tstop and Tstart: one world for a Stopped process, another for any other
     module _ (m : Message) (yes no : ℕ → Process → World) where
@@ -71,7 +69,7 @@ module _ (w : World) (pid i : ℕ) (e : i ≡ indexOf (w .target) pid) where
 module _ (regs : List ℕ) (i : ℕ) where
   block-byte : (at k : ℕ) → k < 136 → at ≡ 136 * i + k → getD (blockAt regs i) k 0 ≡ getD regs at 0
   unfolding blockAt
-  block-byte at k h e = rw (e, getD-take, getD-drop)
+  block-byte at k h e = rw e (part-at regs (136 * i) 136 k 0 h)
 
   pub saved-pc : (at : ℕ) → at ≡ 136 * i + 132
       → ofHighFirst (getD regs at 0 ∷ getD regs (at + 1) 0 ∷ getD regs (at + 2) 0 ∷ getD regs (at + 3) 0 ∷ []) ≡ pcOf (blockAt regs i)
@@ -84,22 +82,19 @@ module _ (regs : List ℕ) (i : ℕ) where
         block-byte (at + 3) 135 (omega arith) (omega arith),
       )
 
--- ---- the breakpoint at an address, of a fit record
-
-pub facts : (t : Target) (mem : List ℕ) → fitOf house t mem ≡ true → Facts house t mem
-facts t mem e = facts-by house t mem (tests-of t mem e)
+-- ---- the breakpoint at an address
 
 module _ (w : World) (address k : ℕ) (z : length (w .target .table .entries) ≡ 8)
     (e : k ≡ breakpointAt (w .target .table .entries) address) where
   -- none is there: nothing is removed
   none-at : 8 ≤ k → w ≡ removedAt w address
   unfolding removedAt
-  none-at h = rw (← e, le-ltb k (length (w .target .table .entries)) (omega arith))
+  none-at h = rw (← e, z, le-ltb k 8 h)
 
   -- the one that is there is removed
   one-at : k < 8 → removed w k ≡ removedAt w address
   unfolding removedAt
-  one-at h = rw (← e, lt-ltb k (length (w .target .table .entries)) (omega arith))
+  one-at h = rw (← e, z, lt-ltb k 8 h)
 
 -- Tstart of a Stopped process, by what is found at its saved pc
 module _ (w : World) (pid i : ℕ) (e : i ≡ indexOf (w .target) pid) (l : i < w .target .count)

@@ -1,18 +1,16 @@
 -- Laws of the events: what each gives back, whether a pid is listed, and what each event then does. Assumes nothing.
-use mathlib.Core.Path.{_≡_, sym}
+use mathlib.Core.Path.{_≡_, sym, _∙_}
 use mathlib.Core.Bool.{Bool, true, false, or-true}
 use mathlib.Core.List.{List, []}
 use Prim.Native.Nat.{ℕ, _<_, _≤_}
 use native.Mathlib.Omega.{arith}
-use borrow.Author.Tests.{lt-ltb, le-ltb, eq-eqb, ne-eqb, eqb-true}
-use lib.Dec.{ltb}
+use borrow.Author.Tests.{lt-ltb, le-ltb, eq-eqb, ne-eqb}
 use lib.ListN.{length, getD, replicate}
-use Rattle.common.proofs.Cases.{on-less}
-use Rattle.condition.proofs.Depth.{too-many}
-use Rattle.condition.specs.Depth.{depthOf, wellFormed}
+use Rattle.condition.proofs.Depth.{formed-few}
 use Rattle.condition.specs.Evaluate.{evaluateOf, fetchOf}
 use Rattle.fit.specs.Fit.{stopped, processAt, entryAt}
 use Rattle.fit.specs.declared.Scan.{Scan}
+use Rattle.fit.proofs.Laws.{pid-missing, pid-listed}
 use Rattle.memory.specs.Head.{house}
 use Rattle.rules.specs.Breakpoint.{breakpointAt}
 use Rattle.rules.specs.Change.{applied}
@@ -28,7 +26,6 @@ use Rattle.rules.specs.declared.Answer.the-variants.{Nothing, Stop, Pass, Yes, 
 use Rattle.rules.specs.declared.Change.{Change}
 use Rattle.rules.specs.declared.Change.the-variants.{Same, State}
 use Rattle.rules.specs.declared.Effect.{Effect}
-use Rattle.target.specs.declared.Element.{Element}
 use Rattle.target.specs.declared.Process.{Process}
 use Rattle.target.specs.declared.Target.{Target}
 
@@ -65,11 +62,6 @@ stops w a i block d regs e = rw (← (e .1)) (sets-state (world (w .target) (w .
 
 -- ---- a breakpoint that is found
 
--- a well-formed condition has at most sixteen elements
-formed-few : (l : List Element) (n : ℕ) → wellFormed l n ≡ true → n ≤ 16
-unfolding wellFormed
-formed-few l n e = on-less 16 n (λ h. absurd (omega (arith, too-many l n h, eqb-true (depthOf l n) 1 e))) (λ h. h)
-
 pub elements-few : (t : Target) (mem : List ℕ) → Good house t mem → (address k : ℕ) → k ≡ breakpointAt (t .table .entries) address → k < 8
     → entryAt (t .table .entries) k .count ≤ 16
 elements-few t mem g address k f h =
@@ -83,60 +75,60 @@ elements-few t mem g address k f h =
 module _ (w : World) (pid i : ℕ) (e : i ≡ indexOf (w .target) pid) where
   pub unlisted : (serve : ℕ → Process → Outcome) → w .target .count ≤ i → refused 4 w [] ≡ onListed w pid serve
   unfolding onListed
-  unlisted serve h = rw (← e, le-ltb i (w .target .count) h)
+  unlisted serve h = pid-missing _ _ _ _ e serve _ h
 
   module _ (h : i < w .target .count) where
+    listed : (serve : ℕ → Process → Outcome) (o : Outcome) → o ≡ serve i (processAt (w .target .processes) i) → o ≡ onListed w pid serve
+    unfolding onListed
+    listed serve o q = q ∙ pid-listed _ _ _ _ e serve _ h
+
     -- ---- a state event
 
     module _ (value : ℕ) where
       pub state-stopped : processAt (w .target .processes) i .state ≡ stopped → refused 5 w [] ≡ state w pid value
-      unfolding state onListed isStopped
-      state-stopped s = rw (← e, lt-ltb i (w .target .count) h, eq-eqb _ stopped s)
+      unfolding state isStopped
+      state-stopped s = listed _ _ (rw (eq-eqb _ stopped s))
 
       pub state-eight : value ≡ stopped → refused 5 w [] ≡ state w pid value
-      unfolding state onListed
-      state-eight v = rw (← e, lt-ltb i (w .target .count) h, eq-eqb value stopped v, or-true)
+      unfolding state
+      state-eight v = listed _ _ (rw (eq-eqb value stopped v, or-true))
 
       pub state-set : (processAt (w .target .processes) i .state ≡ stopped → ⊥) → (value ≡ stopped → ⊥)
           → answered Nothing (world (setState (w .target) i value (processAt (w .target .processes) i .wanted)) (w .mem) (w .regs))
           ≡ state w pid value
-      unfolding state onListed isStopped
-      state-set s v = rw (← e, lt-ltb i (w .target .count) h, ne-eqb _ stopped s, ne-eqb value stopped v)
+      unfolding state isStopped
+      state-set s v = listed _ _ (rw (ne-eqb _ stopped s, ne-eqb value stopped v))
 
     module _ (block : List ℕ) where
       -- ---- a schedule event
 
       pub schedule-no : processAt (w .target .processes) i .wanted ≡ 0 → answered No w ≡ schedule w pid block
-      unfolding schedule onListed
-      schedule-no s = rw (← e, lt-ltb i (w .target .count) h, eq-eqb _ 0 s)
+      unfolding schedule
+      schedule-no s = listed _ _ (rw (eq-eqb _ 0 s))
 
       pub schedule-yes : (processAt (w .target .processes) i .wanted ≡ 0 → ⊥) → answered Yes (stopWith w i block) ≡ schedule w pid block
-      unfolding schedule onListed
-      schedule-yes s = rw (← e, lt-ltb i (w .target .count) h, ne-eqb _ 0 s)
+      unfolding schedule
+      schedule-yes s = listed _ _ (rw (ne-eqb _ 0 s))
 
       -- ---- a trap event
 
       pub trap-stopped : processAt (w .target .processes) i .state ≡ stopped → refused 5 w [] ≡ trap house w pid block
-      unfolding trap onListed isStopped
-      trap-stopped s = rw (← e, lt-ltb i (w .target .count) h, eq-eqb _ stopped s)
+      unfolding trap isStopped
+      trap-stopped s = listed _ _ (rw (eq-eqb _ stopped s))
 
       module _ (n : processAt (w .target .processes) i .state ≡ stopped → ⊥) (eight : length (w .target .table .entries) ≡ 8)
           (pc k : ℕ) (p : pc ≡ pcOf block) (f : k ≡ breakpointAt (w .target .table .entries) pc) where
         pub trap-none : 8 ≤ k → refused 6 w [] ≡ trap house w pid block
-        unfolding trap onListed isStopped
-        trap-none l =
-            let z : ltb k (length (w .target .table .entries)) ≡ false = le-ltb k _ (omega arith) in
-            rw (← e, lt-ltb i (w .target .count) h, ne-eqb _ stopped n, ← p, ← f, z)
+        unfolding trap isStopped
+        trap-none l = listed _ _ (rw (ne-eqb _ stopped n, ← p, ← f, eight, le-ltb k 8 l))
 
         -- by whether the condition of the one that is found holds
         module _ (l : k < 8) (s : Scan) (ok : Ready house (w .target) s (w .mem) (w .regs)) (b : Bool)
             (v : b ≡ (let x = entryAt (w .target .table .entries) k in
             evaluateOf (fetchOf house (s .sites) (s .plain) (w .mem) (w .target .base)) pid (x .elements) (x .count))) where
-          found : trapped house w i pid block (entryAt (w .target .table .entries) k) ≡ trap house w pid block
-          unfolding trap onListed isStopped
-          found =
-              let z : ltb k (length (w .target .table .entries)) ≡ true = lt-ltb k _ (omega arith) in
-              rw (← e, lt-ltb i (w .target .count) h, ne-eqb _ stopped n, ← p, ← f, z)
+          found : (o : Outcome) → o ≡ trapped house w i pid block (entryAt (w .target .table .entries) k) → o ≡ trap house w pid block
+          unfolding trap isStopped
+          found o q = listed _ _ (rw (ne-eqb _ stopped n, ← p, ← f, eight, lt-ltb k 8 l) q)
 
           holds-as : holds house w pid (entryAt (w .target .table .entries) k) ≡ b
           unfolding holds
@@ -144,10 +136,10 @@ module _ (w : World) (pid i : ℕ) (e : i ≡ indexOf (w .target) pid) where
 
           pub trap-stop : b ≡ true → answered (Stop (entryAt (w .target .table .entries) k .id)) (stopWith w i block) ≡ trap house w pid block
           unfolding trapped
-          trap-stop y = rw (holds-as, y) at found
+          trap-stop y = found _ (rw (holds-as, y))
 
           pub trap-pass : b ≡ false
               → (let x = entryAt (w .target .table .entries) k in answered (Pass (getD (x .plain) 0 0) (getD (x .plain) 1 0)) w)
               ≡ trap house w pid block
           unfolding trapped
-          trap-pass y = rw (holds-as, y) at found
+          trap-pass y = found _ (rw (holds-as, y))

@@ -1,17 +1,18 @@
 -- Laws of the steps: the tests that every step begins with, what a request and a restart give back, and the step of each kind.
 -- Assumes nothing.
-use mathlib.Core.Path.{_≡_, refl, sym, ap, _∙_}
+use mathlib.Core.Path.{_≡_, refl, ap, _∙_}
 use mathlib.Core.Bool.{Bool, true, false, cond, not, _&&_, and-false}
 use mathlib.Core.List.{List, []}
-use Prim.Native.Nat.{ℕ, _*_, _≤_}
+use Prim.Native.Nat.{ℕ, _*_}
 use borrow.Author.Tests.{eq-eqb, ne-eqb, eqb-true, not-true, not-false}
 use lib.Dec.{leb, eqb}
 use lib.ListN.{length, getD}
 use Rattle.common.proofs.Cases.{on-test}
-use Rattle.common.proofs.Same.{and-both}
+use Rattle.common.proofs.Same.{parts}
 use Rattle.events.proofs.Laws.{effect}
 use Rattle.fit.specs.Fit.{fitOf, Scanned}
 use Rattle.fit.specs.declared.Scan.{Scan}
+use Rattle.fit.proofs.Laws.{answered-yes, answered-no}
 use Rattle.memory.specs.Head.{house}
 use Rattle.memory.specs.Overlay.{plainOf}
 use Rattle.request.specs.Request as parsed
@@ -20,8 +21,7 @@ use Rattle.request.specs.declared.Parsed.{Parsed}
 use Rattle.request.specs.declared.Parsed.the-variants.{Request, Refused, NotTen}
 use Rattle.rules.specs.Change.{applied}
 use Rattle.rules.specs.Event.{trap, schedule, state, restart}
-use Rattle.rules.specs.FitFacts.{tests-of, facts-by}
-use Rattle.rules.specs.Outcome.{World, world, Outcome, refused, replied}
+use Rattle.rules.specs.Outcome.{World, Outcome, refused, replied}
 use Rattle.rules.specs.Ready.{Ready, served, effected}
 use Rattle.rules.specs.Request.{requestBy}
 use Rattle.rules.specs.Step.{sized, checked, requestOf, trapOf, scheduleOf, stateOf, restartOf}
@@ -78,9 +78,7 @@ module _ (kind input reply : ℕ) where
   module _ (e : lentRight kind input reply ≡ true) where
     pub lent-request : kind ≡ 1 → (input ≡ 10) × (reply ≡ 10)
     unfolding lentRight
-    lent-request k =
-        let both = and-both (eqb input 10) (eqb reply 10) (rw k at e) in
-        (eqb-true input 10 (both .0), eqb-true reply 10 (both .1))
+    lent-request k = let both = rw k at e in (search parts, search parts)
 
     pub lent-trap : kind ≡ 2 → input ≡ 136
     unfolding lentRight
@@ -102,19 +100,16 @@ pub ready-by : (w : World) (b : Bool) → b ≡ sizes w → not b ≡ false
     → (s : Scan) → Scanned (fitOf house (w .target) (w .mem)) (w .target .base) (w .target .table .entries) s → not (s .fit) ≡ false
     → Ready house (w .target) s (w .mem) (w .regs)
 ready-by w b e h s f g =
-    let fit = sym (f .holds) ∙ not-false _ g in
-    let both = and-both _ _ (sym e ∙ not-false b h) in
+    let fit = answered-yes _ _ (f .holds) g in
+    let both = answered-yes _ _ e h in
     record {
       fit = fit;
       ids = f .ids fit;
       sites = f .sites fit;
       plain = f .plain fit;
-      memory = eqb-true _ _ (both .0);
-      registers = eqb-true _ _ (both .1);
+      memory = search parts;
+      registers = search parts;
     }
-
-pub few : (t : Target) (s : Scan) (mem regs : List ℕ) → Ready house t s mem regs → t .count ≤ 4
-few t s mem regs ok = facts-by house t mem (tests-of t mem (ok .fit)) .few
 
 -- ---- the step of each kind
 
@@ -159,7 +154,7 @@ module _ (kind : ℕ) (w : World) (pid value : ℕ) (input reply : List ℕ) whe
         → refused 3 w reply ≡ stepBy kind w pid value input reply
     unfolding checked sized
     unfit b e h s f g =
-        let u : fitOf house (w .target) (w .mem) ≡ false = sym (f .holds) ∙ not-true _ g in
+        let u : fitOf house (w .target) (w .mem) ≡ false = answered-no _ _ (f .holds) g in
         rw (← e, not-false b h, lent, u) at tested
 
     -- and the step is taken

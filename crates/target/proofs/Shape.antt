@@ -16,7 +16,7 @@ use Rattle.target.specs.declared.Draft.{Draft}
 use Rattle.target.specs.declared.Table.{Table}
 use Rattle.target.specs.declared.Process.{Process}
 use Rattle.target.specs.declared.Target.{Target}
-use Rattle.target.specs.Fresh.{noElement, noEntry, noProcess}
+use Rattle.target.specs.Fresh.{noEntry}
 use Rattle.target.proofs.Element as element
 use Rattle.target.proofs.Entry as entry
 use Rattle.target.proofs.Draft as draft
@@ -40,15 +40,6 @@ field-at F xs us i z p h =
     subst (λ (x : F .row .Denot). (u : Val) × Is (F .row) x (u ∷ [])) (List·getD-map (F .into) xs i z)
     (each-at (F .row .Denot) (F .row .own) (map (F .into) xs) us i (F .into z) p
     (subst (λ (n : ℕ). i < n) (sym (length-map xs (F .into))) h))
-
--- ---- elements
-
-pub record ElementShape (e : Element) : Type 0 where
-  pub letter : e .letter < 2 ^ 8
-  pub value : e .value < 2 ^ 32
-
-pub element-shape : (e : Element) (vs : List Val) → Is element.the-row e vs → ElementShape e
-element-shape e vs h = record { letter = h .1 .1 .0 .1; value = h .1 .1 .1 .0 .1 }
 
 -- ---- entries
 
@@ -100,22 +91,6 @@ draft-shape d vs h = record {
   elements = sym (length-map (d .elements) (element.the-field .into)) ∙ (h .1 .1 .1 .1 .1 .0 .1 .0 .1);
 }
 
--- ---- processes
-
-pub record ProcessShape (p : Process) : Type 0 where
-  pub pid : p .pid < 2 ^ 32
-  pub address : p .address < 2 ^ 32
-  pub state : p .state < 2 ^ 8
-  pub wanted : p .wanted < 2 ^ 8
-
-pub process-shape : (p : Process) (vs : List Val) → Is process.the-row p vs → ProcessShape p
-process-shape p vs h = record {
-  pid = h .1 .1 .0 .1;
-  address = h .1 .1 .1 .0 .1;
-  state = h .1 .1 .1 .1 .0 .1;
-  wanted = h .1 .1 .1 .1 .1 .0 .1;
-}
-
 -- ---- targets
 
 pub record TargetShape (t : Target) : Type 0 where
@@ -138,9 +113,3 @@ target-shape t vs h = record {
 
 pub target-table : (t : Target) (vs : List Val) → Is target.the-row t vs → (us : List Val) × Is table.the-row (t .table) us
 target-table t vs h = (_, h .1 .1 .1 .1 .1 .1 .1 .1 .0)
-
-pub target-process : (t : Target) (vs : List Val) (i : ℕ) → Is target.the-row t vs → i < 4
-    → (u : Val) × Is process.the-row (getD (t .processes) i noProcess) (u ∷ [])
-target-process t vs i h p =
-    field-at process.the-field (t .processes) (h .1 .1 .1 .1 .1 .0 .0) i noProcess (h .1 .1 .1 .1 .1 .0 .1 .1)
-    (subst (λ (n : ℕ). i < n) (sym (target-shape t vs h .processes)) p)

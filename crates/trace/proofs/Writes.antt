@@ -1,16 +1,12 @@
 -- Laws of bytes that are written to the front of a buffer: by stores, by a copy, and behind what is there already. Assumes nothing.
 use mathlib.Core.Path.{_≡_, refl, sym, ap, _∙_}
-use mathlib.Core.Bool.{cond, _&&_}
 use mathlib.Core.List.{List, [], _∷_, _++_, append-assoc}
-use Prim.Native.Nat.{ℕ, suc, _+_, _-_, _≤_, _<_, min}
+use Prim.Native.Nat.{ℕ, suc, _+_, _≤_, _<_, min}
 use native.Mathlib.Omega.{arith}
-use borrow.Author.Tests.{le-leb, lt-ltb, le-ltb, eq-eqb, ne-eqb}
-use lib.Dec.{leb, ltb}
-use lib.ListN.{length, getD, take, drop, set, length-append, length-drop, List·getD-append}
-use lib.Seq.{paste, length-take-le, sets, sets-eq, getD-append-add, getD-drop, take-at, drop-at, drop-drop}
-use Rattle.common.proofs.Cases.{on-less}
+use borrow.Author.Tests.{eq-eqb, ne-eqb}
+use lib.ListN.{length, take, drop, set, length-append, length-drop}
+use lib.Seq.{paste, length-take-le, sets, sets-eq, take-at, drop-at, drop-drop}
 use Rattle.common.proofs.Lists.{copy-whole}
-use Rattle.common.proofs.Tab.{length-tab, tab-is}
 use Rattle.memory.specs.Write.{overwritten}
 use Rattle.memory.proofs.Parts.{put-over}
 use Rattle.memory.proofs.Bytes.{length-overwritten}

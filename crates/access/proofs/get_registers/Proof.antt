@@ -1,6 +1,6 @@
 -- `access::get_registers` meets its contract: the current process's block or the refusal, then the part of the block that is read.
 -- Assumes nothing.
-use mathlib.Core.Path.{_≡_, sym, _∙_}
+use mathlib.Core.Path.{_∙_}
 use Prim.Native.Nat.{_+_, _*_, _≤_}
 use native.Mathlib.Omega.{arith}
 use denote.Ref.{now}
@@ -8,8 +8,6 @@ use borrow.Author.Needs.{needs}
 use lib.ListN.{length}
 use Rattle.memory.proofs.Parts.{read-block}
 use Rattle.rules.specs.Outcome.{world}
-use Rattle.access.specs.Access.{blockOf}
-use Rattle.access.specs.declared.Block.the-variants.{At}
 use Rattle.access.proofs.Laws.{block-within, refuses, got-block, got-refused}
 use Rattle.access.proofs.get_registers.Statement.{statement}
 use Rattle.access.proofs.get_registers.Tie as tie
@@ -29,21 +27,18 @@ returns c =
     let b = k .before .before in
     let a = b .before .before .before .args in
     let w = world (a .t) (now (a .mem)) (now (a .regs)) in
-    refuses w _ _ (c .rerr .ensures) ∙ got-refused w (a .addr) (a .n) _ (sym (k .block .given .1) ∙ b .block-of .ensures)
+    refuses w _ _ (c .rerr .ensures) ∙ got-refused w (a .addr) (a .n) _ _ (b .block-of .ensures) (k .block .given .1)
 
 enum-known-block-2 : tie.Need-enum-known-block-2
 enum-known-block-2 c = search needs
 
--- the block that is found, and that it is one of the register area
-at : (c : tie.After-known-told2)
-    → At (c .before .block2 .given .0 .0) ≡ blockOf (c .before .before .before .before .before .before .args .t)
-at c = sym (c .before .block2 .given .1) ∙ c .before .before .before .block-of .ensures
-
+-- the block that is found is one of the register area
 fits : (c : tie.After-known-told2)
     → 136 * (c .before .block2 .given .0 .0) + 136 ≤ length (now (c .before .before .before .before .before .before .args .regs))
 fits c =
-    let s = c .before .before .before .before .before .before in
-    block-within (s .args .t) (now (s .args .regs)) _ (s .pre .0) (at c)
+    let k = c .before .before .before in
+    let s = k .before .before .before in
+    block-within (s .args .t) (now (s .args .regs)) (s .pre .0) _ _ (k .block-of .ensures) (c .before .block2 .given .1)
 
 mul-from : tie.Need-mul-from
 mul-from c = omega (arith, fits c)
@@ -74,12 +69,13 @@ returns-2 c =
     let p = c .before in
     let e = p .before .before .before in
     let k = e .before .before in
-    let s = k .before .before .before .before .before .before in
+    let b = k .before .before .before in
+    let s = b .before .before .before in
     let a = s .args in
     let m = now (a .mem) in
     let r = now (a .regs) in
     let i = k .before .block2 .given .0 .0 in
-    got-block (world (a .t) m r) _ _ (c .rmget .ensures) (a .addr) (a .n) i (at k)
+    got-block (world (a .t) m r) _ _ (c .rmget .ensures) (a .addr) (a .n) _ i (b .block-of .ensures) (k .before .block2 .given .1)
     (p .read .ensures ∙ read-block m (a .t .base) (a .addr) (a .n) _ _ r (136 * i) (s .pre .1) (fits k) (e .stretch .ensures))
 
 pub get-registers-spec : {M : Type 1} → statement M

@@ -4,11 +4,13 @@ use native.Mathlib.Omega.{arith}
 use denote.Ref.{now}
 use borrow.Author.Needs.{needs}
 use lib.ListN.{length}
+use Rattle.fit.proofs.Laws.{fit-some}
+use Rattle.memory.specs.Head.{house}
 use Rattle.memory.specs.Place.{placeOf}
 use Rattle.memory.specs.declared.Place.the-variants.{Window}
 use Rattle.memory.proofs.Parts.{within-window, read-window}
 use Rattle.rules.specs.Outcome.{world}
-use Rattle.access.proofs.Laws.{ready-some, got-window}
+use Rattle.access.proofs.Laws.{got-window}
 use Rattle.access.proofs.get_window.Statement.{statement}
 use Rattle.access.proofs.get_window.Tie as tie
 
@@ -31,7 +33,7 @@ part-stretch-end c =
     let s = c .before .before .before .before .before in
     let a = s .args in
     let r = s .pre .0 in
-    omega (arith, r .registers, ready-some (a .t) (a .s) (now (a .mem)) (now (a .regs)) r)
+    omega (arith, r .registers, fit-some house (a .t) (now (a .mem)) (r .fit))
 
 stretch-requires : tie.Need-stretch-requires
 stretch-requires c κs = search needs

@@ -6,13 +6,14 @@ use denote.Ref.{now}
 use borrow.Author.Needs.{needs}
 use lib.ListN.{length, take}
 use lib.Seq.{length-take-le}
+use Rattle.fit.proofs.Slots.{two-each}
 use Rattle.memory.specs.declared.Place.the-variants.{Window}
 use Rattle.memory.proofs.Parts.{named, within-registers, within-window}
 use Rattle.rules.specs.Change.{applied}
 use Rattle.rules.specs.Outcome.{world, Outcome}
 use Rattle.rules.specs.Request.{putTo, mput}
 use Rattle.wire.specs.Message.{bytes4}
-use Rattle.access.proofs.Laws.{ready-listed, refuses, put-window, put-same, two-each, sixteen, length-after, put-none, put-to}
+use Rattle.access.proofs.Laws.{ready-listed, refuses, put-window, put-same, sixteen, length-after, put-none, put-to}
 use Rattle.access.proofs.mput.Statement.{statement}
 use Rattle.access.proofs.mput.Tie as tie
 

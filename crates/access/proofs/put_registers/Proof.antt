@@ -1,6 +1,6 @@
 -- `access::put_registers` meets its contract: register zero and a block that may not be used are refused, else the bytes are written
 -- over those of the block. Assumes nothing.
-use mathlib.Core.Path.{_≡_, sym, _∙_}
+use mathlib.Core.Path.{_∙_}
 use Prim.Native.Nat.{_+_, _*_, _≤_}
 use native.Mathlib.Omega.{arith}
 use denote.Ref.{now}
@@ -8,8 +8,6 @@ use borrow.Author.Needs.{needs}
 use lib.ListN.{length}
 use Rattle.memory.proofs.Parts.{put-copied}
 use Rattle.rules.specs.Outcome.{world}
-use Rattle.access.specs.Access.{blockOf}
-use Rattle.access.specs.declared.Block.the-variants.{At}
 use Rattle.access.proofs.Laws.{block-within, refuses, put-zero, put-refused, put-block}
 use Rattle.access.proofs.put_registers.Statement.{statement}
 use Rattle.access.proofs.put_registers.Tie as tie
@@ -39,22 +37,19 @@ returns-2 c mem =
     let a = b .before .before .before .before .args in
     let w = world (a .t) mem (now (a .regs)) in
     refuses w _ _ (c .rerr2 .ensures)
-    ∙ put-refused w (a .addr) (now (a .bytes)) (b .before .if1 .left) _ (sym (k .block .given .1) ∙ b .block-of .ensures)
+    ∙ put-refused w (a .addr) (now (a .bytes)) (b .before .if1 .left) _ _ (b .block-of .ensures) (k .block .given .1)
 
 enum-known-block-2 : tie.Need-enum-known-block-2
 enum-known-block-2 c = search needs
 
--- the block that is found, and that the bytes lie in the register area
-at : (c : tie.After-known-told2)
-    → At (c .before .block2 .given .0 .0) ≡ blockOf (c .before .before .before .before .before .before .before .args .t)
-at c = sym (c .before .block2 .given .1) ∙ c .before .before .before .block-of .ensures
-
+-- the block that is found is one of the register area, so that the bytes lie there
 fits : (c : tie.After-known-told2)
     → let a = c .before .before .before .before .before .before .before .args in
     136 * (c .before .block2 .given .0 .0) + a .addr + length (now (a .bytes)) ≤ length (now (a .regs))
 fits c =
-    let s = c .before .before .before .before .before .before .before in
-    omega (arith, block-within (s .args .t) (now (s .args .regs)) _ (s .pre .0) (at c))
+    let k = c .before .before .before in
+    let s = k .before .before .before .before in
+    omega (arith, block-within (s .args .t) (now (s .args .regs)) (s .pre .0) _ _ (k .block-of .ensures) (c .before .block2 .given .1))
 
 mul-from : tie.Need-mul-from
 mul-from c = omega (arith, fits c)
@@ -90,7 +85,8 @@ returns-3 c mem =
     let b = k .before .before .before in
     let a = b .before .before .before .before .args in
     let i = k .before .block2 .given .0 .0 in
-    put-block (world (a .t) mem (now (a .regs))) (a .addr) (now (a .bytes)) (b .before .if1 .left) i (at k) _ _
+    put-block (world (a .t) mem (now (a .regs))) (a .addr) (now (a .bytes)) (b .before .if1 .left) _ i (b .block-of .ensures)
+    (k .before .block2 .given .1) _ _
     (put-copied (now (a .regs)) (now (a .bytes)) _ (136 * i + a .addr) (fits k) (r .copy .ensures)) (c .bytes-of .ensures)
 
 pub put-registers-spec : {M : Type 1} → statement M

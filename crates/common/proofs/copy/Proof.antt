@@ -1,5 +1,5 @@
 -- `common::copy` meets its contract. The loop's invariant: the first i elements are the source's, the others as they were. Assumes nothing.
-use mathlib.Core.Path.{_≡_, refl, sym, ap, _∙_}
+use mathlib.Core.Path.{_≡_, refl, ap, _∙_}
 use mathlib.Core.List.{List}
 use Prim.Native.Nat.{ℕ, _≤_, _-_, min}
 use native.Mathlib.Nat.{zero-add}

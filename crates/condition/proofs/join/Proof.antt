@@ -1,8 +1,9 @@
 -- `condition::join` meets its contract: each letter by its test of the definition. Assumes nothing.
-use mathlib.Core.Path.{refl}
+use mathlib.Core.Path.{ap, _∙_}
 use mathlib.Core.Logic.{⊎-elim}
 use borrow.Author.Needs.{needs}
-use Rattle.condition.proofs.Truth.{join-bits, join-eq, join-ne, join-and, join-or, and-on, and-off, or-on, or-off}
+use Rattle.condition.specs.Evaluate.{flag, joinOf}
+use Rattle.condition.proofs.Truth.{join-or, and-on, and-off, or-on, or-off}
 use Rattle.condition.proofs.join.Statement.{statement}
 use Rattle.condition.proofs.join.Tie as tie
 
@@ -19,20 +20,24 @@ flag-requires-4 : tie.Need-flag-requires-4
 flag-requires-4 c κs = search needs
 
 returns : tie.Need-returns
-returns c = join-bits _ _ _ _ (c .match .keys1) refl
+unfolding joinOf
+returns c = rw (c .match .keys1)
 
 returns-2 : tie.Need-returns-2
-returns-2 c = join-eq _ _ _ _ (c .before .match .keys2) (c .flag .ensures)
+unfolding joinOf
+returns-2 c = rw (c .before .match .keys2) (c .flag .ensures)
 
 returns-3 : tie.Need-returns-3
-returns-3 c = join-ne _ _ _ _ (c .before .match .keys3) (c .flag2 .ensures)
+unfolding joinOf
+returns-3 c = rw (c .before .match .keys3) (c .flag2 .ensures)
 
 returns-4 : tie.Need-returns-4
+unfolding joinOf
 returns-4 c =
     let a = c .before .before .before .args in
-    join-and _ _ _ _ (c .before .if1 .flag) (c .before .before .match .keys4)
-    (⊎-elim (λ w. and-on (a .x) (a .y) _ (w .0 .taken) (w .1)) (λ w. and-off (a .x) (a .y) _ (w .0 .left) (w .1)) (c .before .if1 .came))
-    (c .flag3 .ensures)
+    rw (c .before .before .match .keys4)
+    (c .flag3 .ensures
+    ∙ ap flag (⊎-elim (λ w. and-on (a .x) (a .y) _ (w .0 .taken) (w .1)) (λ w. and-off (a .x) (a .y) _ (w .0 .left) (w .1)) (c .before .if1 .came)))
 
 returns-5 : tie.Need-returns-5
 returns-5 c =

@@ -5,20 +5,22 @@ use Prim.Native.Nat.{_<_, _≤_}
 use native.Mathlib.Omega.{arith}
 use borrow.Author.Needs.{needs}
 use lib.ListN.{length}
+use Rattle.fit.proofs.Laws.{fit-few}
+use Rattle.fit.proofs.Slots.{eight-entries}
+use Rattle.memory.specs.Head.{house}
 use Rattle.rules.specs.Change.{applied}
 use Rattle.rules.specs.Request.{start}
-use Rattle.target.proofs.Shape.{table-entries, target-table}
-use Rattle.control.proofs.Laws.{replies, unlisted, when-not, facts, start-none, start-one, used-at}
+use Rattle.control.proofs.Laws.{replies, unlisted, when-not, start-none, start-one, used-at}
 use Rattle.control.proofs.start.Statement.{statement}
 use Rattle.control.proofs.start.Tie as tie
 
 -- the table has eight entries
 eight : (c : tie.Start) → length (c .args .t .table .entries) ≡ 8
-eight c = let (_, u) = target-table (c .args .t) _ (c .good .0) in table-entries (c .args .t .table) _ u
+eight c = eight-entries (c .args .t) _ (c .good .0)
 
 -- the processes are at most four, so that one that is listed is below
 few : (c : tie.Start) → c .args .t .count ≤ 4
-few c = facts (c .args .t) _ (c .pre .fit) .few
+few c = fit-few house (c .args .t) _ (c .pre .fit)
 
 below : (c : tie.Else1) → c .before .process-of .result < 4
 below c = omega (arith, few (c .before .before .before .before .before .before))

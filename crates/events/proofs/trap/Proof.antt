@@ -1,15 +1,15 @@
 -- `events::trap` meets its contract: each refusal is the definition's, in its order, then the condition of the breakpoint at the pc
 -- decides, over the plain bytes that the scan of the table gives. Assumes nothing.
-use mathlib.Core.Path.{_≡_, _∙_}
+use mathlib.Core.Path.{_∙_}
 use Prim.Native.Nat.{_≤_}
 use native.Mathlib.Omega.{arith}
 use borrow.Author.Needs.{needs}
 use denote.Ref.{now}
+use Rattle.fit.proofs.Laws.{fit-few}
 use Rattle.memory.specs.Head.{house}
 use Rattle.breaks.proofs.Laws.{ready-good}
 use Rattle.rules.specs.Event.{trap}
 use Rattle.rules.specs.Facts.{Good}
-use Rattle.rules.specs.FitFacts.{facts-of}
 use Rattle.rules.specs.declared.Answer.the-variants.{Stop}
 use Rattle.events.proofs.Laws.{refuses, answers, stops, elements-few, unlisted, trap-stopped, trap-none, trap-stop, trap-pass}
 use Rattle.events.proofs.trap.Statement.{statement}
@@ -19,7 +19,7 @@ good : (s : tie.Start) → Good house (s .args .t) (now (s .args .mem))
 good s = ready-good _ _ _ _ _ (s .good .0) (s .pre .0)
 
 few : (s : tie.Start) → s .args .t .count ≤ 4
-few s = facts-of _ _ (good s) .few
+few s = fit-few house (s .args .t) _ (s .pre .0 .fit)
 
 -- where the code starts, from where the process is found listed
 abbrev start : tie.Else1 → tie.Start

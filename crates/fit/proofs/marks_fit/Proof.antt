@@ -5,9 +5,9 @@ use Prim.Native.Nat.{_≤_, _-_}
 use native.Mathlib.Omega.{arith}
 use borrow.Author.Needs.{needs}
 use Rattle.common.specs.Every.{every}
-use Rattle.common.proofs.Every.{every-fails, every-more}
+use Rattle.common.proofs.Every.{every-fails, every-more, every-done}
 use Rattle.fit.specs.Fit.{processAt, markFit, marksFit}
-use Rattle.fit.proofs.Laws.{answered-yes, answered-no, every-done}
+use Rattle.fit.proofs.Laws.{answered-yes, answered-no}
 use Rattle.fit.proofs.marks_fit.Statement.{statement}
 use Rattle.fit.proofs.marks_fit.Tie as tie
 

@@ -5,8 +5,8 @@ use Prim.Native.Nat.{_≤_, _-_}
 use native.Mathlib.Omega.{arith}
 use borrow.Author.Tests.{eq-eqb, ne-eqb}
 use Rattle.common.specs.Every.{every}
-use Rattle.common.proofs.Every.{every-fails, every-more}
-use Rattle.fit.proofs.Laws.{every-done, unseen}
+use Rattle.common.proofs.Every.{every-fails, every-more, every-done}
+use Rattle.fit.proofs.Laws.{unseen}
 use Rattle.fit.proofs.pid_free.Statement.{statement}
 use Rattle.fit.proofs.pid_free.Tie as tie
 

@@ -1,12 +1,11 @@
 -- `fit::process_of` meets its contract. The loop's invariant: no process before place k has the pid. Assumes nothing.
-use mathlib.Core.Path.{_≡_, ap, _∙_}
+use mathlib.Core.Path.{ap, _∙_}
 use mathlib.Core.Bool.{Bool}
 use Prim.Native.Nat.{ℕ, _≤_, _<_, _-_}
 use native.Mathlib.Omega.{arith}
-use borrow.Author.Needs.{needs}
 use borrow.Author.Tests.{eq-eqb, ne-eqb}
 use lib.Dec.{eqb}
-use lib.ListN.{length, take}
+use lib.ListN.{take}
 use lib.Seq.{getD-take, length-take-le}
 use Rattle.common.proofs.First.{Passed, begin, pass, stop, none}
 use Rattle.target.specs.declared.Process.{Process}
@@ -19,13 +18,13 @@ abbrev has : ℕ → Process → Bool
 has pid p = eqb (p .pid) pid
 
 abbrev Inv-loop : tie.InvT-loop
-Inv-loop count pid ps n k₀ k = (n ≤ 4) × (k ≤ n) × (length (take n ps) ≡ n) × Passed (has pid) (take n ps) k
+Inv-loop count pid ps n k₀ k = (n ≤ 4) × Passed (has pid) (take n ps) n k
 
 abbrev μ-loop : tie.MeasureT-loop
 μ-loop count pid ps n k₀ k = n - k
 
 loop-holds : tie.Need-loop-holds Inv-loop μ-loop
-loop-holds c = (c .pre, search needs, length-take-le _ _ (omega arith), begin _ _)
+loop-holds c = (c .pre, begin _ _ _ (length-take-le _ _ (omega arith)))
 
 mul-if2 : tie.Need-mul-if2 Inv-loop μ-loop
 mul-if2 c = omega arith
@@ -42,25 +41,19 @@ loop-less c = omega arith
 loop-again : tie.Need-loop-again Inv-loop μ-loop
 loop-again c =
     let o = c .before .before .loop in
-    let h : o .k < c .before .before .before .args .count = omega arith in (
-      o .inv .0,
-      omega arith,
-      o .inv .2,
-      pass _ _ noProcess _ _ (o .inv .2) h (ap (has _) (getD-take _ _ _ noProcess h) ∙ ne-eqb _ _ (c .if2 .left)) (o .inv .3),
-    )
+    let h : o .k < c .before .before .before .args .count = omega arith in
+    (o .inv .0, pass _ _ noProcess _ _ (o .inv .1) h (ap (has _) (getD-take _ _ _ noProcess h) ∙ ne-eqb _ _ (c .if2 .left)))
 
 returns : tie.Need-returns Inv-loop μ-loop
 unfolding processOf
-returns c =
-    let o = c .before .loop .inv in
-    c .if1 .taken ∙ none _ _ noProcess _ _ (o .2) (c .if1 .taken) (o .3)
+returns c = none _ _ noProcess _ _ (c .before .loop .inv .1) (c .if1 .taken)
 
 returns-2 : tie.Need-returns-2 Inv-loop μ-loop
 unfolding processOf
 returns-2 c =
     let o = c .before .before .loop in
     let h : o .k < c .before .before .before .args .count = omega arith in
-    stop _ _ noProcess _ _ (o .inv .2) h (ap (has _) (getD-take _ _ _ noProcess h) ∙ eq-eqb _ _ (c .if2 .taken)) (o .inv .3)
+    stop _ _ noProcess _ _ (o .inv .1) h (ap (has _) (getD-take _ _ _ noProcess h) ∙ eq-eqb _ _ (c .if2 .taken))
 
 pub process-of-spec : {M : Type 1} → statement M
 process-of-spec =

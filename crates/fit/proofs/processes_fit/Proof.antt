@@ -7,8 +7,9 @@ use native.Mathlib.Omega.{arith}
 use borrow.Author.Tests.{le-leb, lt-leb, not-true, not-false}
 use Rattle.common.specs.Every.{every}
 use Rattle.common.proofs.Every.{every-more}
+use Rattle.common.proofs.Fill.{fill-none, fill-set}
 use Rattle.fit.specs.Fit.{pidFit, processesFit}
-use Rattle.fit.proofs.Laws.{filled-none, filled-set, Seen, pid-zero, pid-by, pids-unfit, pids-fit}
+use Rattle.fit.proofs.Laws.{Seen, pid-zero, pid-by, pids-unfit, pids-fit}
 use Rattle.fit.proofs.processes_fit.Statement.{statement}
 use Rattle.fit.proofs.processes_fit.Tie as tie
 
@@ -28,7 +29,7 @@ returns-2 c = rw (le-leb _ _ (c .before .if1 .left), lt-leb _ _ (c .if2 .taken))
 
 loop-holds : tie.Need-loop-holds Inv-loop μ-loop
 unfolding every
-loop-holds c = (omega arith, refl, filled-none 4 _ 0)
+loop-holds c = (omega arith, refl, fill-none _ 0 4)
 
 mul-pid : tie.Need-mul-pid Inv-loop μ-loop
 mul-pid c = omega arith
@@ -49,7 +50,7 @@ returns-4 c =
     let f = c .before .before .before in
     let l = f .before .before in
     pids-unfit _ _ (l .before .before .if1 .left) (l .before .if2 .left) _ (f .before .loop-test .taken)
-    (pid-by _ _ _ (l .loop .inv .2) (f .if3 .left) _ (c .before .pid-free .ensures) ∙ not-true _ (c .if4 .taken))
+    (pid-by _ _ _ (omega arith) (l .loop .inv .2) (f .if3 .left) _ (c .before .pid-free .ensures) ∙ not-true _ (c .if4 .taken))
 
 mul-pids : tie.Need-mul-pids Inv-loop μ-loop
 mul-pids c = omega arith
@@ -68,8 +69,8 @@ loop-again c =
     let f = c .before .before .before in
     let o = f .before .before .loop .inv in (
       omega arith,
-      every-more _ _ (o .1) (pid-by _ _ _ (o .2) (f .if3 .left) _ (c .before .pid-free .ensures) ∙ not-false _ (c .if4 .left)),
-      filled-set (o .2) (omega arith) _ refl,
+      every-more _ _ (o .1) (pid-by _ _ _ (omega arith) (o .2) (f .if3 .left) _ (c .before .pid-free .ensures) ∙ not-false _ (c .if4 .left)),
+      fill-set _ _ _ 4 (o .2) _ refl,
     )
 
 returns-5 : tie.Need-returns-5 Inv-loop μ-loop

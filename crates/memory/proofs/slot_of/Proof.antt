@@ -1,18 +1,17 @@
 -- `memory::slot_of` meets its contract. The loop's invariant: no site before slot k covers the offset. Assumes nothing.
-use Prim.Native.Nat.{_≤_, _-_}
-use mathlib.Core.Path.{_≡_, sym, _∙_}
+use Prim.Native.Nat.{_-_}
+use mathlib.Core.Path.{sym}
 use native.Mathlib.Omega.{arith}
 use borrow.Author.Needs.{needs}
 use borrow.Author.Tests.{eq-eqb, ne-eqb}
 use lib.Dec.{eqb}
-use lib.ListN.{length}
 use Rattle.common.proofs.First.{Passed, begin, pass, stop, none}
 use Rattle.memory.specs.Overlay.{siteOver, slotOf}
 use Rattle.memory.proofs.slot_of.Statement.{statement}
 use Rattle.memory.proofs.slot_of.Tie as tie
 
 abbrev Inv-loop : tie.InvT-loop
-Inv-loop sites at all over k₀ k = (k ≤ 8) × (length sites ≡ 8) × Passed (eqb over) sites k
+Inv-loop sites at all over k₀ k = Passed (eqb over) sites 8 k
 
 abbrev μ-loop : tie.MeasureT-loop
 μ-loop sites at all over k₀ k = 8 - k
@@ -21,7 +20,7 @@ sub-over : tie.Need-sub-over Inv-loop μ-loop
 sub-over c = search needs
 
 loop-holds : tie.Need-loop-holds Inv-loop μ-loop
-loop-holds c = (search needs, search needs, begin _ _)
+loop-holds c = begin _ _ 8 (search needs)
 
 mul-site : tie.Need-mul-site Inv-loop μ-loop
 mul-site c = search needs
@@ -40,20 +39,15 @@ loop-less c = omega arith
 
 loop-again : tie.Need-loop-again Inv-loop μ-loop
 loop-again c =
-    let o = c .before .before .before .loop .inv in
-    (omega arith, o .1, pass _ _ 0 _ 8 (o .1) (omega arith) (ne-eqb _ _ (λ e. c .if2 .left (sym e))) (o .2))
+    pass _ _ 0 8 _ (c .before .before .before .loop .inv) (omega arith) (ne-eqb _ _ (λ e. c .if2 .left (sym e)))
 
 returns : tie.Need-returns Inv-loop μ-loop
 unfolding slotOf siteOver
-returns c =
-    let o = c .before .loop .inv in
-    c .if1 .taken ∙ none _ _ 0 _ 8 (o .1) (c .if1 .taken) (o .2)
+returns c = none _ _ 0 8 _ (c .before .loop .inv) (c .if1 .taken)
 
 returns-2 : tie.Need-returns-2 Inv-loop μ-loop
 unfolding slotOf siteOver
-returns-2 c =
-    let o = c .before .before .before .loop .inv in
-    stop _ _ 0 _ 8 (o .1) (omega arith) (eq-eqb _ _ (sym (c .if2 .taken))) (o .2)
+returns-2 c = stop _ _ 0 8 _ (c .before .before .before .loop .inv) (omega arith) (eq-eqb _ _ (sym (c .if2 .taken)))
 
 pub slot-of-spec : {M : Type 1} → statement M
 slot-of-spec =

@@ -3,9 +3,9 @@
 use borrow.Author.Needs.{needs}
 use borrow.Author.Tests.{not-true, not-false}
 use Rattle.fit.proofs.Laws.{answered-yes, answered-no, processes-few}
+use Rattle.fit.proofs.Slots.{target-small}
 use Rattle.scan.proofs.Laws.{
   unfit-scan,
-  target-small,
   window-even,
   fit-window,
   fit-processes,

@@ -5,8 +5,7 @@ use Prim.Native.Nat.{_≤_, _-_}
 use native.Mathlib.Omega.{arith}
 use borrow.Author.Tests.{eq-eqb, ne-eqb}
 use Rattle.common.specs.Every.{every}
-use Rattle.common.proofs.Every.{every-fails, every-more}
-use Rattle.fit.proofs.Laws.{every-done}
+use Rattle.common.proofs.Every.{every-fails, every-more, every-done}
 use Rattle.scan.proofs.Laws.{clear}
 use Rattle.scan.proofs.clear_of.Statement.{statement}
 use Rattle.scan.proofs.clear_of.Tie as tie

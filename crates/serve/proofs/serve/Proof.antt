@@ -6,14 +6,12 @@ use mathlib.Core.List.{[], _∷_}
 use Prim.Native.Nat.{ℕ, _≤_}
 use native.Mathlib.Omega.{arith}
 use borrow.Author.Needs.{needs}
-use borrow.Author.Tests.{leb-true}
 use denote.Enum.Declared.{tagOf}
-use lib.Dec.{leb}
 use Rattle.memory.specs.Head.{house}
-use Rattle.access.proofs.Laws.{ready-listed}
+use Rattle.fit.proofs.Laws.{fit-few}
 use Rattle.common.specs.Keys.{among}
 use Rattle.common.proofs.Keys.{among-yes}
-use Rattle.common.proofs.Same.{true-or-false, and-both}
+use Rattle.common.proofs.Same.{true-or-false, parts}
 use Rattle.control.proofs.Laws.{replies}
 use Rattle.rules.specs.Change.{applied}
 use Rattle.rules.specs.Outcome.{World, error}
@@ -31,11 +29,11 @@ use Rattle.serve.proofs.serve.Tie as tie
 -- a Tmput that is a message writes at most four bytes
 put-few : (m : Message) (addr n : ℕ) (d : Data4) → m ≡ Tmput addr n d → isMessage m ≡ true → n ≤ 4
 unfolding isMessage isPut
-put-few m addr n d e h = leb-true n 4 (and-both (leb n 4) _ (sym (ap isMessage e) ∙ h) .0)
+put-few m addr n d e h = let f = sym (ap isMessage e) ∙ h in search parts
 
 -- there are four processes at most
 few : (c : tie.Start) → c .args .t .count ≤ 4
-few c = ready-listed _ _ _ _ (c .pre .0) .few
+few c = fit-few house (c .args .t) _ (c .pre .0 .fit)
 
 -- every message but the eight requests; a tag is the variant's place
 others : (w : World) (m : Message)

@@ -1,5 +1,4 @@
 -- `steps::lent_right` meets its contract: each arm's test is the definition's at its kind. Assumes nothing.
-use borrow.Author.Needs.{needs}
 use borrow.Author.Tests.{eq-eqb, ne-eqb}
 use Rattle.steps.specs.Kinds.{lentRight}
 use Rattle.steps.proofs.Laws.{lent-rest}

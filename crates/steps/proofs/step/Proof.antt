@@ -1,16 +1,16 @@
 -- `steps::step` meets its contract: each refusal is the definition's, in its order, then each arm is the step of its kind. Assumes nothing.
-use mathlib.Core.Path.{_≡_, sym, _∙_}
+use mathlib.Core.Path.{_≡_, _∙_}
 use mathlib.Core.Bool.{true}
 use borrow.Author.Needs.{needs}
-use borrow.Author.Tests.{not-false}
 use denote.Ref.{now}
 use lib.ListN.{length}
+use Rattle.fit.proofs.Laws.{answered-yes, fit-few}
 use Rattle.memory.specs.Head.{house}
 use Rattle.events.proofs.Laws.{refuses}
-use Rattle.rules.specs.Outcome.{World, world}
+use Rattle.rules.specs.Outcome.{world}
 use Rattle.rules.specs.Ready.{Ready}
 use Rattle.steps.specs.Kinds.{lentRight}
-use Rattle.steps.proofs.Laws.{ready-by, few, lent-request, lent-trap, lent-schedule, lent-restart, wrong-size, wrong-lent, unfit}
+use Rattle.steps.proofs.Laws.{ready-by, lent-request, lent-trap, lent-schedule, lent-restart, wrong-size, wrong-lent, unfit}
 use Rattle.steps.proofs.Laws.{leaves, takes-request, takes-trap, takes-schedule, takes-state, takes-restart}
 use Rattle.steps.proofs.step.Statement.{statement}
 use Rattle.steps.proofs.step.Tie as tie
@@ -25,7 +25,7 @@ sized k = k .before .before .before .before .before
 
 lent : (k : tie.After-struct-known)
     → let a = start (sized k .before) .args in lentRight (a .kind) (length (now (a .input))) (length (now (a .reply))) ≡ true
-lent k = let l = k .before .before .before in sym (l .before .lent-right .ensures) ∙ not-false _ (l .if2 .left)
+lent k = let l = k .before .before .before in answered-yes _ _ (l .before .lent-right .ensures) (l .if2 .left)
 
 ready : (q : tie.Else3)
     → let a = start (sized (q .before) .before) .args in Ready house (a .t) (q .before .before .check .result) (now (a .mem)) (now (a .regs))
@@ -87,10 +87,10 @@ schedule-requires : tie.Need-schedule-requires
 schedule-requires c κs =
     let m = c .before in
     let ok = ready (m .before) in
-    (few _ _ _ _ ok, ok .registers, lent-schedule _ _ _ (lent (m .before .before)) (m .match .keys3))
+    (fit-few house _ _ (ok .fit), ok .registers, lent-schedule _ _ _ (lent (m .before .before)) (m .match .keys3))
 
 state-requires : tie.Need-state-requires
-state-requires c κs = few _ _ _ _ (ready (c .before))
+state-requires c κs = fit-few house _ _ (ready (c .before) .fit)
 
 restart-requires : tie.Need-restart-requires
 restart-requires c κs =

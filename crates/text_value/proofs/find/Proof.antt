@@ -1,7 +1,7 @@
 -- `text_value::find` meets its contract. The loop's invariant: no row before place k is the text. Assumes nothing.
 use borrow.Author.Needs.{needs}
 use mathlib.Core.Path.{refl, sym, _∙_}
-use Prim.Native.Nat.{_≤_, _-_}
+use Prim.Native.Nat.{_-_}
 use native.Mathlib.Omega.{arith}
 use mathlib.Core.List.{[]}
 use lib.ListN.{length}
@@ -11,13 +11,13 @@ use Rattle.text_value.proofs.find.Statement.{statement}
 use Rattle.text_value.proofs.find.Tie as tie
 
 abbrev Inv-loop : tie.InvT-loop
-Inv-loop rows text k₀ k = (k ≤ length rows) × Passed (sameList text) rows k
+Inv-loop rows text k₀ k = Passed (sameList text) rows (length rows) k
 
 abbrev μ-loop : tie.MeasureT-loop
 μ-loop rows text k₀ k = length rows - k
 
 loop-holds : tie.Need-loop-holds Inv-loop μ-loop
-loop-holds c = (omega arith, begin _ _)
+loop-holds c = begin _ _ _ refl
 
 slice-aggregate-equal : tie.Need-slice-aggregate-equal Inv-loop μ-loop
 slice-aggregate-equal c = search needs
@@ -40,15 +40,15 @@ loop-less c = omega arith
 loop-again : tie.Need-loop-again Inv-loop μ-loop
 loop-again c =
     let o = c .before .before .before .before .before .before in
-    (omega arith, pass _ _ [] _ _ refl (omega arith) (sym (c .before .equal .ensures) ∙ c .if2 .left) (o .loop .inv .1))
+    pass _ _ [] _ _ (o .loop .inv) (omega arith) (sym (c .before .equal .ensures) ∙ c .if2 .left)
 
 returns : tie.Need-returns Inv-loop μ-loop
-returns c = c .if1 .taken ∙ none _ _ [] _ _ refl (c .if1 .taken) (c .before .loop .inv .1)
+returns c = none _ _ [] _ _ (c .before .loop .inv) (c .if1 .taken)
 
 returns-2 : tie.Need-returns-2 Inv-loop μ-loop
 returns-2 c =
     let o = c .before .before .before .before .before .before in
-    stop _ _ [] _ _ refl (omega arith) (sym (c .before .equal .ensures) ∙ c .if2 .taken) (o .loop .inv .1)
+    stop _ _ [] _ _ (o .loop .inv) (omega arith) (sym (c .before .equal .ensures) ∙ c .if2 .taken)
 
 pub find-spec : {M : Type 1} → statement M
 find-spec =

@@ -1,5 +1,6 @@
 -- `trace::body_of` meets its contract: each arm's number is the definition's at its keys. Assumes nothing.
-use mathlib.Core.Path.{refl}
+use mathlib.Core.Path.{_≡_, refl}
+use Prim.Native.Nat.{ℕ, _≤_}
 use mathlib.Core.List.{[], _∷_}
 use mathlib.Core.Logic.{⊎-elim, inl, inr}
 use native.Mathlib.Omega.{arith}
@@ -28,17 +29,17 @@ returns-4 c =
     let k = c .before .before .before .args .kind in
     at-keys bodyOf 140 (2 ∷ 3 ∷ []) k (refl, (refl, tt)) (on-same k 2 inl (λ h. inr (omega arith)))
 
-returns-5 : tie.Need-returns-5
+-- another kind: it is none of 1, 4 and 5, and not from 2 to 3
+other : (k : ℕ) → ((Unit {0} × (k ≡ 1 → ⊥)) × (k ≡ 4 → ⊥)) × (k ≡ 5 → ⊥) → (2 ≤ k → k ≤ 3 → ⊥) → 141 ≡ bodyOf k
 unfolding bodyOf
-returns-5 c =
-    let r = c .before .match .rest in
-    other-arm _ 141 _ ((((tt, r .0 .0 .1), λ h. ⊎-elim (λ e. omega arith) (λ e. omega arith) h), r .0 .1), r .1)
+other k r n =
+    other-arm _ 141 k ((((tt, r .0 .0 .1), ⊎-elim (λ e. n (omega arith) (omega arith)) (λ e. n (omega arith) (omega arith))), r .0 .1), r .1)
+
+returns-5 : tie.Need-returns-5
+returns-5 c = other _ (c .before .match .rest) (λ a b. omega arith)
 
 returns-6 : tie.Need-returns-6
-unfolding bodyOf
-returns-6 c =
-    let r = c .before .before .match .rest in
-    other-arm _ 141 _ ((((tt, r .0 .0 .1), λ h. ⊎-elim (λ e. omega arith) (λ e. omega arith) h), r .0 .1), r .1)
+returns-6 c = other _ (c .before .before .match .rest) (λ a b. omega arith)
 
 pub body-of-spec : {M : Type 1} → statement M
 body-of-spec = tie.close (tie.spec returns returns-2 returns-3 returns-4 returns-5 returns-6)

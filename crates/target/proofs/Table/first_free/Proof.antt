@@ -1,10 +1,8 @@
 -- `Table::first_free` meets its contract. The loop's invariant: no entry before place k is free. Assumes nothing.
-use Prim.Native.Nat.{_≤_, _-_}
-use mathlib.Core.Path.{_≡_, _∙_}
+use Prim.Native.Nat.{_-_}
 use native.Mathlib.Omega.{arith}
 use borrow.Author.Needs.{needs}
 use borrow.Author.Tests.{eq-eqb, ne-eqb}
-use lib.ListN.{length}
 use Rattle.common.proofs.First.{Passed, begin, pass, stop, none}
 use Rattle.target.specs.Fresh.{noEntry}
 use Rattle.target.specs.Free.{isFree, firstFree}
@@ -13,13 +11,13 @@ use Rattle.target.proofs.Table.first_free.Statement.{statement}
 use Rattle.target.proofs.Table.first_free.Tie as tie
 
 abbrev Inv-loop : tie.InvT-loop
-Inv-loop self k₀ k = (k ≤ 8) × (length (self .entries) ≡ 8) × Passed isFree (self .entries) k
+Inv-loop self k₀ k = Passed isFree (self .entries) 8 k
 
 abbrev μ-loop : tie.MeasureT-loop
 μ-loop self k₀ k = 8 - k
 
 loop-holds : tie.Need-loop-holds Inv-loop μ-loop
-loop-holds c = (search needs, table-entries (c .args .t1) _ (c .good .0), begin _ _)
+loop-holds c = begin _ _ 8 (table-entries (c .args .t1) _ (c .good .0))
 
 mul-e : tie.Need-mul-e Inv-loop μ-loop
 mul-e c = search needs
@@ -37,17 +35,17 @@ loop-again : tie.Need-loop-again Inv-loop μ-loop
 unfolding isFree
 loop-again c =
     let o = c .before .before .before .before in
-    (omega arith, o .loop .inv .1, pass _ _ noEntry _ 8 (o .loop .inv .1) (omega arith) (ne-eqb _ _ (c .if2 .left)) (o .loop .inv .2))
+    pass _ _ noEntry 8 _ (o .loop .inv) (omega arith) (ne-eqb _ _ (c .if2 .left))
 
 returns : tie.Need-returns Inv-loop μ-loop
 unfolding firstFree
-returns c = c .if1 .taken ∙ none _ _ noEntry _ 8 (c .before .loop .inv .1) (c .if1 .taken) (c .before .loop .inv .2)
+returns c = none _ _ noEntry 8 _ (c .before .loop .inv) (c .if1 .taken)
 
 returns-2 : tie.Need-returns-2 Inv-loop μ-loop
 unfolding firstFree isFree
 returns-2 c =
     let o = c .before .before .before .before in
-    stop _ _ noEntry _ 8 (o .loop .inv .1) (omega arith) (eq-eqb _ _ (c .if2 .taken)) (o .loop .inv .2)
+    stop _ _ noEntry 8 _ (o .loop .inv) (omega arith) (eq-eqb _ _ (c .if2 .taken))
 
 pub first-free-spec : {M : Type 1} → statement M
 first-free-spec =
