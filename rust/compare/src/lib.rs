@@ -22,7 +22,6 @@ pub mod op;
 pub mod pair;
 pub mod raw;
 pub mod record;
-pub mod rng;
 pub mod run;
 pub mod shrink;
 pub mod tally;

@@ -4,6 +4,7 @@ use crate::make::setup::RULES;
 use crate::make::sorts::SORTS;
 use crate::record::Record;
 use std::fmt;
+use steps::Step;
 
 #[derive(Debug, Clone, Copy, PartialEq, Eq)]
 pub enum Kind {
@@ -59,6 +60,21 @@ pub struct Call {
     pub memory: Option<usize>,
     /// The same for the register area.
     pub registers: Option<usize>,
+}
+
+impl Call {
+    /// The step, where it is none of setup and its input has the right size.
+    pub fn step(&self) -> Option<Step> {
+        let pid = self.pid;
+        Some(match self.kind {
+            Kind::Setup => return None,
+            Kind::Request => Step::Request(self.input[..].try_into().ok()?),
+            Kind::Trap => Step::Trap { pid, block: self.input[..].try_into().ok()? },
+            Kind::Schedule => Step::Schedule { pid, block: self.input[..].try_into().ok()? },
+            Kind::State => Step::State { pid, value: self.value },
+            Kind::Restart => Step::Restart,
+        })
+    }
 }
 
 /// Where a record comes from, which says what a step on it must give.
