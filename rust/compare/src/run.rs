@@ -127,8 +127,12 @@ impl Runner {
         self.apply()
     }
 
-    /// Ops that are aimed at what there is now.
+    /// Ops that are aimed at what there is now. A run may end with a record damaged, at which
+    /// there is nothing to aim.
     fn burst(&mut self, make: fn(&mut Maker, Scene<'_>, &mut Vec<Op>)) -> Done {
+        if self.left == 0 {
+            return Ok(());
+        }
         if let Some(scene) = self.pair.scene() {
             make(&mut self.maker, scene, &mut self.ops);
         }
