@@ -4,11 +4,11 @@ use crate::burst::Burst;
 use reference::{Breakpoint, ENTRIES, STOPPED};
 
 /// The first and last registers, and what is next to them.
-pub const EDGES: [u32; 16] = [0, 1, 2, 3, 4, 5, 127, 128, 129, 130, 131, 132, 133, 134, 135, 136];
+pub(crate) const EDGES: [u32; 16] = [0, 1, 2, 3, 4, 5, 127, 128, 129, 130, 131, 132, 133, 134, 135, 136];
 
 impl Burst<'_> {
     /// The first address past the window; 0 where the window ends at 2^32.
-    pub fn end(&self) -> u32 {
+    pub(crate) fn end(&self) -> u32 {
         self.stub.base.wrapping_add(self.stub.size)
     }
 
@@ -17,12 +17,12 @@ impl Burst<'_> {
         self.stub.base + self.rng.below(self.stub.size)
     }
 
-    pub fn even(&mut self) -> u32 {
+    pub(crate) fn even(&mut self) -> u32 {
         self.inside() & !1
     }
 
     /// A breakpoint, if there is one.
-    pub fn point(&mut self) -> Option<Breakpoint> {
+    pub(crate) fn point(&mut self) -> Option<Breakpoint> {
         let start = self.rng.index(ENTRIES);
         let table = &self.stub.table;
         (0..ENTRIES).find_map(|i| table[(start + i) % ENTRIES])
@@ -34,13 +34,13 @@ impl Burst<'_> {
     }
 
     /// Whether a breakpoint may be set there.
-    pub fn is_free(&self, site: u32) -> bool {
+    pub(crate) fn is_free(&self, site: u32) -> bool {
         let inside = site.wrapping_sub(self.stub.base) < self.stub.size;
         inside && self.stub.at_site(site).is_none()
     }
 
     /// Mostly a free site, beside a standing one where there is room.
-    pub fn free_site(&mut self) -> u32 {
+    pub(crate) fn free_site(&mut self) -> u32 {
         let site = self.standing_site();
         let by = self.rng.pick(&[2u32, 2u32.wrapping_neg()]);
         let near = (1..5).map(|i| site.wrapping_add(by.wrapping_mul(i)));
@@ -49,7 +49,7 @@ impl Burst<'_> {
     }
 
     /// A site for b: mostly free, else taken, odd, outside or anywhere even.
-    pub fn site(&mut self) -> u32 {
+    pub(crate) fn site(&mut self) -> u32 {
         match self.rng.weighted(&[55, 6, 5, 6, 28]) {
             0 => self.free_site(),
             1 => self.standing_site(),
@@ -71,7 +71,7 @@ impl Burst<'_> {
     }
 
     /// An id in use, a free one, or one over 255, with these weights.
-    pub fn id(&mut self, weights: [u32; 3]) -> u32 {
+    pub(crate) fn id(&mut self, weights: [u32; 3]) -> u32 {
         let known = self.point().map_or(0, |point| u32::from(point.id));
         match self.rng.weighted(&weights) {
             0 => known,
@@ -84,7 +84,7 @@ impl Burst<'_> {
     }
 
     /// A listed pid that is Stopped, or is not, if there is one.
-    pub fn pid_where(&mut self, stopped: bool) -> Option<u32> {
+    pub(crate) fn pid_where(&mut self, stopped: bool) -> Option<u32> {
         let processes = &self.stub.processes;
         let start = self.rng.index(processes.len());
         let order = (0..processes.len()).map(|i| processes[(start + i) % processes.len()]);
@@ -105,7 +105,7 @@ impl Burst<'_> {
     }
 
     /// An address of the window or beside it, of a register, or of nothing.
-    pub fn address(&mut self) -> u32 {
+    pub(crate) fn address(&mut self) -> u32 {
         match self.rng.weighted(&[42, 10, 12, 16, 10, 5, 5]) {
             0 => self.standing_site().wrapping_sub(3).wrapping_add(self.rng.below(6)),
             1 => self.stub.base.wrapping_sub(9).wrapping_add(self.rng.below(12)),

@@ -50,7 +50,7 @@ impl Burst<'_> {
     }
 
     /// A Tcondbreak.
-    pub fn op(&mut self, letter: u8, val: u32) {
+    pub(crate) fn op(&mut self, letter: u8, val: u32) {
         self.ask(ten(16, val, &[letter]));
     }
 }

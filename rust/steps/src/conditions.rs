@@ -152,7 +152,7 @@ impl Burst<'_> {
     }
 
     /// A condition of 16 elements and a 17th, with or without the values that it needs.
-    pub fn long(&mut self) {
+    pub(crate) fn long(&mut self) {
         let id = self.free_id();
         self.op(b'n', id);
         let closed = self.rng.chance(50);
@@ -168,7 +168,7 @@ impl Burst<'_> {
     }
 
     /// A Tcondbreak for whatever is in hand.
-    pub fn stray(&mut self) {
+    pub(crate) fn stray(&mut self) {
         let any = self.rng.byte();
         let known = self.rng.pick(&LETTERS);
         let letter = self.rng.pick(&[known, known, known, any]);
@@ -177,7 +177,7 @@ impl Burst<'_> {
         self.op(letter, val);
     }
 
-    pub fn delete(&mut self) {
+    pub(crate) fn delete(&mut self) {
         let id = self.id([75, 15, 10]);
         if self.rng.chance(20) {
             // d with a non-zero byte in its op, or in the ninth data byte.

@@ -2,6 +2,7 @@
 //! everything that can be reached.
 
 use reference::{body_length, depth, Element, Session};
+use std::process::{Command, Output};
 use steps::program;
 use steps::table::{lacking, table};
 use steps::{Generator, Step, LETTERS};
@@ -83,4 +84,21 @@ fn most_conditions_are_well_formed() {
         whole += u32::from(elements.is_some_and(|list| depth(&list) == Some(1)));
     }
     assert!(whole > 800, "{whole}");
+}
+
+fn run(arguments: &[&str]) -> Output {
+    Command::new(env!("CARGO_BIN_EXE_steps")).args(arguments).output().unwrap()
+}
+
+#[test]
+fn the_program_writes_the_steps_and_says_what_they_came_to() {
+    let plain = run(&["1", "20000"]);
+    assert_eq!((plain.status.code(), &plain.stderr[..]), (Some(0), &[][..]));
+    assert_eq!(plain.stdout, made(1, 20_000).0);
+    let told = run(&["1", "20000", "--stats"]);
+    assert_eq!((told.status.code(), &told.stdout), (Some(0), &plain.stdout));
+    assert!(String::from_utf8_lossy(&told.stderr).starts_with("steps by number"));
+    for wrong in [&["1"][..], &["1", "x"], &["1", "2", "--state"], &["1", "2", "3"]] {
+        assert_eq!(run(wrong).status.code(), Some(2));
+    }
 }
