@@ -4,7 +4,8 @@ use crate::burst::Burst;
 use reference::{Breakpoint, ENTRIES, STOPPED};
 
 /// The first and last registers, and what is next to them.
-pub(crate) const EDGES: [u32; 16] = [0, 1, 2, 3, 4, 5, 127, 128, 129, 130, 131, 132, 133, 134, 135, 136];
+pub(crate) const EDGES: [u32; 16] =
+    [0, 1, 2, 3, 4, 5, 127, 128, 129, 130, 131, 132, 133, 134, 135, 136];
 
 impl Burst<'_> {
     /// The first address past the window; 0 where the window ends at 2^32.
