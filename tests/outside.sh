@@ -78,6 +78,7 @@ check example_rust example_rust
 check examples_equal diff "$logs/kernel_c.txt" "$logs/kernel_rust.txt"
 check wrapper tests_of sanirvoq
 check reference tests_of reference
+check steps tests_of steps
 [ ! -f tests/wire_vectors.py ] || check wire_vectors python3 tests/wire_vectors.py --check
 [ ! -f tests/stub_vectors.py ] || check stub_vectors python3 tests/stub_vectors.py --check
 if [ -f rust/compare/Cargo.toml ]; then

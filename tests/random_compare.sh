@@ -7,12 +7,13 @@ cd "$(dirname "$0")/.."
 count=${1:-1000000}
 seed=${2:-7}
 [ -x target/bin/stub_main ] || rt check stub_main
-cargo build --release --offline --quiet --manifest-path rust/reference/Cargo.toml
-bin=rust/reference/target/release
+for crate in steps reference; do
+    cargo build --release --offline --quiet --manifest-path "rust/$crate/Cargo.toml"
+done
 room=$(mktemp -d)
 trap 'rm -rf "$room"' EXIT
-"$bin/steps" "$seed" "$count" > "$room/input"
-"$bin/reference" < "$room/input" > "$room/expected"
+rust/steps/target/release/steps "$seed" "$count" > "$room/input"
+rust/reference/target/release/reference < "$room/input" > "$room/expected"
 target/bin/stub_main < "$room/input" > "$room/output"
 cmp "$room/expected" "$room/output"
 echo "$count random steps (seed $seed), $(stat -c %s "$room/output") bytes of answers: no difference"

@@ -5,8 +5,8 @@
     python3 tests/stub_vectors.py --check   compare with them, write nothing
 
 crates/stub_main/stdin     directed steps, written here call by call
-crates/stub_random/stdin   random steps of rust/reference's binary `steps`
-.../stdout                 what rust/reference's binary `reference` answers
+crates/stub_random/stdin   random steps of rust/steps
+.../stdout                 what rust/reference answers
 
 The reference is written from document 01 and shares nothing with the crates;
 expected output never comes from the program under test. Every directed call
@@ -14,13 +14,14 @@ also carries the answer that 01 wants, written by hand (for the worked set with
 the bytes as 01 prints them), and the script stops where the reference differs.
 """
 
+import functools
 import subprocess
 import sys
 from pathlib import Path
 
+import stored
+
 ROOT = Path(__file__).resolve().parent.parent
-REFERENCE = ROOT / "rust" / "reference"
-TARGET = REFERENCE / "target"
 SEED, RANDOM_STEPS = 1, 20_000
 
 REQUEST, TRAP, SCHEDULE, STATE, RESTART = 1, 2, 3, 4, 5
@@ -757,23 +758,28 @@ SECTIONS = (
 
 # ---- The reference. ----
 
-def build():
-    """Both binaries, without a registry."""
-    manifest = str(REFERENCE / "Cargo.toml")
-    subprocess.run(["cargo", "build", "--release", "--offline", "--quiet",
-                    "--manifest-path", manifest, "--target-dir", str(TARGET)], check=True)
+def built(name):
+    """The program of a Rust crate, without a registry."""
+    crate = ROOT / "rust" / name
+    target = crate / "target"
+    subprocess.run(["cargo", "build", "--release", "--offline", "--quiet", "--manifest-path",
+                    str(crate / "Cargo.toml"), "--target-dir", str(target)], check=True)
+    return str(target / "release" / name)
+
+
+@functools.cache
+def reference():
+    return built("reference")
 
 
 def answers(data):
     """What the reference writes for this input."""
-    program = TARGET / "release" / "reference"
-    return subprocess.run([str(program)], input=data, stdout=subprocess.PIPE, check=True).stdout
+    return subprocess.run([reference()], input=data, stdout=subprocess.PIPE, check=True).stdout
 
 
 def random_steps():
     """Steps of the generator, which itself looks that nothing reachable is lacking."""
-    program = TARGET / "release" / "steps"
-    return subprocess.run([str(program), str(SEED), str(RANDOM_STEPS), "--stats"], check=True,
+    return subprocess.run([built("steps"), str(SEED), str(RANDOM_STEPS), "--stats"], check=True,
                           stdout=subprocess.PIPE, stderr=subprocess.DEVNULL).stdout
 
 
@@ -805,7 +811,7 @@ def check_ends(cut):
 # ---- The stored files. ----
 
 def make_files():
-    """The four files, by path, and the count of directed steps."""
+    """The four files, by path, and what they are."""
     script = Script()
     for section in SECTIONS:
         section(script)
@@ -818,43 +824,9 @@ def make_files():
         folder = ROOT / "crates" / name
         files[folder / "stdin"] = data
         files[folder / "stdout"] = answers(data)
-    return files, len(script.steps)
-
-
-def check(path, wanted):
-    """Whether the stored file holds the wanted bytes; says where it does not."""
-    if not path.is_file():
-        print(f"{path}: missing")
-        return False
-    stored = path.read_bytes()
-    if stored == wanted:
-        return True
-    shorter = min(len(stored), len(wanted))
-    first = next((i for i in range(shorter) if stored[i] != wanted[i]), shorter)
-    print(f"{path}: differs from byte {first} on "
-          f"({len(stored)} bytes stored, {len(wanted)} wanted)")
-    return False
-
-
-def main(arguments):
-    if arguments not in ([], ["--check"]):
-        print("usage: stub_vectors.py [--check]")
-        return 2
-    build()
-    files, count = make_files()
-    if arguments:
-        results = [check(path, wanted) for path, wanted in files.items()]
-        if not all(results):
-            return 1
-    else:
-        for path, data in files.items():
-            path.parent.mkdir(parents=True, exist_ok=True)
-            path.write_bytes(data)
-    sizes = ", ".join(f"{path.parent.name}/{path.name} {len(data)}"
-                      for path, data in files.items())
-    print(f"{count} directed steps and a cut one, {RANDOM_STEPS} random ones; bytes: {sizes}")
-    return 0
+    said = f"{len(script.steps)} directed steps and a cut one, {RANDOM_STEPS} random ones"
+    return files, said
 
 
 if __name__ == "__main__":
-    sys.exit(main(sys.argv[1:]))
+    sys.exit(stored.run(make_files))

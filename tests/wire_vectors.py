@@ -18,6 +18,8 @@ import re
 import sys
 from pathlib import Path
 
+import stored
+
 FOLDER = Path(__file__).resolve().parent.parent / "crates" / "wire_main"
 ACCEPTED, NO_MESSAGE = 0, 7
 
@@ -268,46 +270,18 @@ def answer(block):
     return bytes([NO_MESSAGE])
 
 
-def check(path, wanted):
-    """Whether the stored file holds the wanted bytes; says where it does not."""
-    if not path.is_file():
-        print(f"{path}: missing")
-        return False
-    stored = path.read_bytes()
-    if stored == wanted:
-        return True
-    pairs = enumerate(zip(stored, wanted))
-    shorter = min(len(stored), len(wanted))
-    first = next((i for i, (a, b) in pairs if a != b), shorter)
-    print(f"{path}: differs from byte {first} on "
-          f"({len(stored)} bytes stored, {len(wanted)} wanted)")
-    return False
-
-
-def main(arguments):
-    if arguments not in ([], ["--check"]):
-        print("usage: wire_vectors.py [--check]")
-        return 2
+def make_files():
+    """The two files, by path, and what they are."""
     blocks = make_blocks()
     cut = message(TMGET, word(0x1004), b"\x04")[:7]
     files = {
         FOLDER / "stdin": b"".join(blocks) + cut,
         FOLDER / "stdout": b"".join(map(answer, blocks)),
     }
-    if arguments:
-        results = [check(path, wanted) for path, wanted in files.items()]
-        if not all(results):
-            return 1
-    else:
-        FOLDER.mkdir(parents=True, exist_ok=True)
-        for path, wanted in files.items():
-            path.write_bytes(wanted)
     accepted = sum(map(is_message, blocks))
-    sizes = ", ".join(f"{path.name} {len(data)}" for path, data in files.items())
-    print(f"{len(blocks)} blocks, {accepted} accepted, "
-          f"{len(blocks) - accepted} refused; bytes: {sizes}")
-    return 0
+    said = f"{len(blocks)} blocks, {accepted} accepted, {len(blocks) - accepted} refused"
+    return files, said
 
 
 if __name__ == "__main__":
-    sys.exit(main(sys.argv[1:]))
+    sys.exit(stored.run(make_files))

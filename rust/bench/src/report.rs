@@ -86,8 +86,10 @@ pub fn growth(rows: &[Row]) -> Option<String> {
 }
 
 pub fn stacks(depths: &[Depth]) -> String {
-    let line =
-        |depth: &Depth| format!("{:<28}{:>8}  {}\n", depth.step.symbol(), depth.bytes, depth.case);
+    let line = |depth: &Depth| {
+        let symbol = format!("sanirvoq_step_{}", depth.step.name());
+        format!("{symbol:<28}{:>8}  {}\n", depth.bytes, depth.case)
+    };
     let heading = format!("{:<28}{:>8}  {}\n", "step", "bytes", "deepest in the case");
     depths.iter().map(line).fold(heading, |text, line| text + &line)
 }
@@ -95,7 +97,7 @@ pub fn stacks(depths: &[Depth]) -> String {
 #[cfg(test)]
 mod tests {
     use super::*;
-    use crate::proved::Step;
+    use sanirvoq::call::Kind;
 
     fn row(name: &'static str, fill: Fill, window: u32, proved: f64, rust: f64) -> Row {
         let timing = Timing { proved: vec![proved], rust: vec![rust], copying: None };
@@ -144,7 +146,7 @@ one or three breakpoints, held to the same: no case was run
 
     #[test]
     fn a_step_has_its_symbol_bytes_and_case() {
-        let text = stacks(&[Depth { step: Step::Trap, bytes: 1234, case: "trap, 0 elements" }]);
+        let text = stacks(&[Depth { step: Kind::Trap, bytes: 1234, case: "trap, 0 elements" }]);
         let last = text.lines().last().expect("a line for the step");
         let words: Vec<&str> = last.split_whitespace().collect();
         assert_eq!(words, ["sanirvoq_step_trap", "1234", "trap,", "0", "elements"]);

@@ -2,8 +2,8 @@
 //! whose paint is gone says how deep it came.
 
 use crate::cases::Case;
-use crate::proved::{Arguments, Caller, Step};
-use sanirvoq::ffi;
+use crate::proved::Caller;
+use sanirvoq::call::{Kind, Lent};
 use std::arch::asm;
 
 /// Far more than a step needs: past its end nothing would stop a write.
@@ -18,27 +18,29 @@ struct Line([u8; 16]);
 /// Calls steps on a painted stack.
 pub struct Painted {
     lines: Vec<Line>,
-    /// The most bytes that each step used, in the order of `Step::ALL`.
-    deepest: [usize; Step::ALL.len()],
+    /// The most bytes that each step used, in the order of `Kind::ALL`.
+    deepest: [usize; Kind::ALL.len()],
 }
 
 impl Default for Painted {
     fn default() -> Self {
-        Self { lines: vec![Line([PAINT; 16]); ROOM / 16], deepest: [0; Step::ALL.len()] }
+        Self { lines: vec![Line([PAINT; 16]); ROOM / 16], deepest: [0; Kind::ALL.len()] }
     }
 }
 
 impl Painted {
-    /// Calls a function of the steps' form. Answers its result and the bytes that it used, from its
+    /// Calls the function of the steps' form that is there. Answers its result and the bytes that it used, from its
     /// return address down to the deepest byte that was written.
     ///
     /// # Safety
     /// What the function asks of its arguments; and it keeps to the room of this stack.
-    unsafe fn measure(&mut self, function: ffi::Step, a: &Arguments) -> (u32, usize) {
+    unsafe fn measure(&mut self, function: *const (), lent: Lent<'_>) -> (u32, usize) {
+        let Lent { record, memory, registers, pid, value, input, reply } = lent;
         self.lines.fill(Line([PAINT; 16]));
         let top = self.lines.as_mut_ptr_range().end;
-        let (input, reply) = (a.input.expose_provenance(), a.reply.expose_provenance());
-        let pushed = [usize::from(a.value), input, a.input_length, reply, a.reply_length];
+        let (from, to) =
+            (input.as_ptr().expose_provenance(), reply.as_mut_ptr().expose_provenance());
+        let pushed = [usize::from(value), from, input.len(), to, reply.len()];
         let result: u32;
         // SAFETY: rsp is back before the block ends, and r12, where it waits, is callee-saved. Eight
         // bytes and five arguments keep rsp a multiple of 16 at the call.
@@ -58,12 +60,12 @@ impl Painted {
                 in("r13") top,
                 in("r14") pushed.as_ptr(),
                 in("r15") function,
-                in("rdi") a.target,
-                in("rsi") a.memory,
-                in("rdx") a.memory_length,
-                in("rcx") a.registers,
-                in("r8") a.registers_length,
-                in("r9") u64::from(a.pid),
+                in("rdi") &raw mut *record,
+                in("rsi") memory.as_mut_ptr(),
+                in("rdx") memory.len(),
+                in("rcx") registers.as_mut_ptr(),
+                in("r8") registers.len(),
+                in("r9") u64::from(pid),
                 lateout("eax") result,
                 clobber_abi("sysv64"),
             );
@@ -76,10 +78,10 @@ impl Painted {
 }
 
 impl Caller for Painted {
-    unsafe fn call(&mut self, step: Step, arguments: Arguments) -> u32 {
-        // SAFETY: the caller's promise.
-        let (result, used) = unsafe { self.measure(step.function(), &arguments) };
-        let deepest = &mut self.deepest[step as usize];
+    fn call(&mut self, kind: Kind, lent: Lent<'_>) -> u32 {
+        // SAFETY: as in `Lent::call`; what a step needs is far less than the room.
+        let (result, used) = unsafe { self.measure(kind.function() as *const (), lent) };
+        let deepest = &mut self.deepest[kind as usize];
         *deepest = used.max(*deepest);
         result
     }
@@ -88,14 +90,14 @@ impl Caller for Painted {
 /// The deepest stack of a step over the cases, and the first case that came so deep.
 #[derive(Debug, Clone, Copy, PartialEq, Eq)]
 pub struct Depth {
-    pub step: Step,
+    pub step: Kind,
     pub bytes: usize,
     pub case: &'static str,
 }
 
 /// Runs every case on a painted stack, with the steps that prepare it.
 pub fn depths(cases: &[Case]) -> Vec<Depth> {
-    let mut depths = Step::ALL.map(|step| Depth { step, bytes: 0, case: "" });
+    let mut depths = Kind::ALL.map(|step| Depth { step, bytes: 0, case: "" });
     for case in cases {
         let painted: Painted = case.called().caller;
         for (depth, bytes) in depths.iter_mut().zip(painted.deepest) {
@@ -111,72 +113,54 @@ pub fn depths(cases: &[Case]) -> Vec<Depth> {
 mod tests {
     use super::*;
     use crate::cases::cases;
+    use sanirvoq::ffi::Target;
     use std::arch::naked_asm;
-    use std::ptr::without_provenance_mut as at;
 
     /// Writes the lowest byte of N that it takes from the stack, besides its return address.
     #[unsafe(naked)]
-    unsafe extern "C" fn takes<const N: usize>(
-        _: *mut ffi::Target,
-        _: *mut u8,
-        _: usize,
-        _: *mut u8,
-        _: usize,
-        _: u32,
-        _: u8,
-        _: *const u8,
-        _: usize,
-        _: *mut u8,
-        _: usize,
-    ) -> u32 {
+    unsafe extern "C" fn takes<const N: usize>() {
         naked_asm!("sub rsp, {n}", "mov byte ptr [rsp], 0", "add rsp, {n}", "ret", n = const N)
     }
 
-    /// Folds its arguments, each where it stands.
-    unsafe extern "C" fn folds(
-        target: *mut ffi::Target,
-        memory: *mut u8,
-        memory_length: usize,
-        registers: *mut u8,
-        registers_length: usize,
-        pid: u32,
-        value: u8,
-        input: *const u8,
-        input_length: usize,
-        reply: *mut u8,
-        reply_length: usize,
-    ) -> u32 {
-        let first = [target.addr(), memory.addr(), memory_length, registers.addr()];
-        let second = [registers_length, pid as usize, usize::from(value), input.addr()];
-        let third = [input_length, reply.addr(), reply_length];
-        let all = first.iter().chain(&second).chain(&third);
+    /// The arguments from the seventh on: by value, a struct of five words lies as they do.
+    #[repr(C)]
+    struct Pushed([usize; 5]);
+
+    fn fold(first: [usize; 6], pushed: Pushed) -> u32 {
+        let all = first.iter().chain(&pushed.0);
         all.fold(0, |sum: u32, &one| sum.wrapping_mul(31).wrapping_add(one as u32))
     }
 
-    fn arguments() -> Arguments {
-        Arguments {
-            target: at(2),
-            memory: at(3),
-            memory_length: 5,
-            registers: at(7),
-            registers_length: 11,
-            pid: 13,
-            value: 17,
-            input: at(19),
-            input_length: 23,
-            reply: at(29),
-            reply_length: 31,
-        }
+    /// Folds its arguments, each where it stands.
+    #[rustfmt::skip]
+    unsafe extern "C" fn folds(
+        a: usize, b: usize, c: usize, d: usize, e: usize, f: usize, pushed: Pushed,
+    ) -> u32 {
+        fold([a, b, c, d, e, f], pushed)
+    }
+
+    /// Measures a function that follows no pointer. Gives also what `folds` is to make of the
+    /// arguments.
+    fn measured(painted: &mut Painted, function: *const ()) -> (u32, usize, u32) {
+        let record = &mut Target::default();
+        let (memory, registers) = (&mut [0; 5][..], &mut [0; 11][..]);
+        let (input, reply) = (&[0; 23][..], &mut [0; 31][..]);
+        let (block, area) = (memory.as_ptr().addr(), registers.as_ptr().addr());
+        let first = [(&raw const *record).addr(), block, 5, area, 11, 13];
+        let pushed = Pushed([17, input.as_ptr().addr(), 23, reply.as_ptr().addr(), 31]);
+        let lent = Lent { record, memory, registers, pid: 13, value: 17, input, reply };
+        // SAFETY: the function's writes are within the stack.
+        let (result, used) = unsafe { painted.measure(function, lent) };
+        (result, used, fold(first, pushed))
     }
 
     #[test]
     fn a_known_use_is_measured_to_the_byte() {
         let mut painted = Painted::default();
-        let functions: [(ffi::Step, usize); 4] =
+        let functions: [(unsafe extern "C" fn(), usize); 4] =
             [(takes::<1>, 1), (takes::<1000>, 1000), (takes::<50_000>, 50_000), (takes::<8>, 8)];
         for (function, bytes) in functions {
-            // SAFETY: the functions look at no argument.
-            let (_, used) = unsafe { painted.measure(function, &arguments()) };
+            let (_, used, _) = measured(&mut painted, function as *const ());
             assert_eq!(used, 8 + bytes);
         }
     }
@@ -184,23 +168,18 @@ mod tests {
     #[test]
     #[should_panic(expected = "near the end")]
     fn a_use_beyond_the_room_is_not_taken_for_a_measure() {
-        // SAFETY: the function looks at no argument, and its one write is within the stack.
-        unsafe { Painted::default().measure(takes::<{ ROOM - 1000 }>, &arguments()) };
+        measured(&mut Painted::default(), takes::<{ ROOM - 1000 }> as *const ());
     }
 
     #[test]
     fn arguments_arrive_in_their_places() {
-        let expected = [2, 3, 5, 7, 11, 13, 17, 19, 23, 29, 31]
-            .into_iter()
-            .fold(0, |sum: u32, one| sum.wrapping_mul(31).wrapping_add(one));
-        // SAFETY: the function follows no pointer.
-        let (result, _) = unsafe { Painted::default().measure(folds, &arguments()) };
+        let (result, _, expected) = measured(&mut Painted::default(), folds as *const ());
         assert_eq!(result, expected);
     }
 
     #[test]
     fn every_step_is_measured() {
         let depths = depths(&cases(&[64]));
-        assert_eq!(depths.iter().map(|depth| depth.step).collect::<Vec<_>>(), Step::ALL);
+        assert_eq!(depths.iter().map(|depth| depth.step).collect::<Vec<_>>(), Kind::ALL);
     }
 }

@@ -1,10 +1,8 @@
 //! The proved stub, as the archive has it.
 
-#![allow(unsafe_code)]
-
-use crate::op::{Call, Kind};
+use crate::op::Call;
 use crate::record::Record;
-use sanirvoq::ffi;
+use sanirvoq::call;
 
 /// What one call is lent.
 pub struct Lent<'a> {
@@ -19,29 +17,7 @@ pub struct Lent<'a> {
 pub type Stub = fn(&Call, &mut Lent<'_>) -> u32;
 
 pub fn archive(call: &Call, lent: &mut Lent<'_>) -> u32 {
-    let step: ffi::Step = match call.kind {
-        Kind::Setup => ffi::sanirvoq_step_setup,
-        Kind::Request => ffi::sanirvoq_step_request,
-        Kind::Trap => ffi::sanirvoq_step_trap,
-        Kind::Schedule => ffi::sanirvoq_step_schedule,
-        Kind::State => ffi::sanirvoq_step_state,
-        Kind::Restart => ffi::sanirvoq_step_restart,
-    };
-    // SAFETY: the five are exclusive borrows, so valid, apart and nobody else's during the call; a
-    // slice's pointer is never null.
-    unsafe {
-        step(
-            lent.record.target_mut(),
-            lent.memory.as_mut_ptr(),
-            lent.memory.len(),
-            lent.registers.as_mut_ptr(),
-            lent.registers.len(),
-            call.pid,
-            call.value,
-            lent.input.as_ptr(),
-            lent.input.len(),
-            lent.reply.as_mut_ptr(),
-            lent.reply.len(),
-        )
-    }
+    let Lent { record, memory, registers, input, reply } = lent;
+    let (record, &Call { pid, value, .. }) = (record.target_mut(), call);
+    call::Lent { record, memory, registers, pid, value, input, reply }.call(call.kind)
 }

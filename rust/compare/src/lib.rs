@@ -7,8 +7,8 @@
 //!   worth
 //! - [`pair`]: runs one [`op::Op`] on both sides and compares; what is compared when is said there
 //! - [`book`]: the book of demand 3 beside a session
-//! - [`make`]: makes the lists, from a seed
-//! - [`tally`]: counts what was reached
+//! - [`make`]: makes the lists, from a seed; the steps of a session come from `rust/steps`
+//! - [`tally`]: counts what was reached, besides what `rust/steps` counts
 //! - [`run`] and [`shrink`]: the whole run, and the short list where the sides differ
 
 #![deny(unsafe_code)]
@@ -22,7 +22,6 @@ pub mod op;
 pub mod pair;
 pub mod raw;
 pub mod record;
-pub mod rng;
 pub mod run;
 pub mod shrink;
 pub mod tally;

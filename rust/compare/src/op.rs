@@ -4,46 +4,9 @@ use crate::make::setup::RULES;
 use crate::make::sorts::SORTS;
 use crate::record::Record;
 use std::fmt;
+use steps::Step;
 
-#[derive(Debug, Clone, Copy, PartialEq, Eq)]
-pub enum Kind {
-    Setup,
-    Request,
-    Trap,
-    Schedule,
-    State,
-    Restart,
-}
-
-impl Kind {
-    pub const ALL: [Self; 6] =
-        [Self::Setup, Self::Request, Self::Trap, Self::Schedule, Self::State, Self::Restart];
-
-    pub fn name(self) -> &'static str {
-        match self {
-            Self::Setup => "setup",
-            Self::Request => "request",
-            Self::Trap => "trap",
-            Self::Schedule => "schedule",
-            Self::State => "state",
-            Self::Restart => "restart",
-        }
-    }
-
-    /// The bytes of input that it is to be lent, where it uses input.
-    pub fn input(self) -> Option<usize> {
-        match self {
-            Self::Request => Some(reference::MESSAGE),
-            Self::Trap | Self::Schedule => Some(reference::BLOCK),
-            _ => None,
-        }
-    }
-
-    /// The bytes of reply that it is to be lent, where it uses the reply.
-    pub fn reply(self) -> Option<usize> {
-        matches!(self, Self::Request | Self::Restart).then_some(reference::MESSAGE)
-    }
-}
+pub use sanirvoq::call::Kind;
 
 /// One step. What its kind does not use may be anything.
 #[derive(Debug, Clone)]
@@ -59,6 +22,21 @@ pub struct Call {
     pub memory: Option<usize>,
     /// The same for the register area.
     pub registers: Option<usize>,
+}
+
+impl Call {
+    /// The step, where it is none of setup and its input has the right size.
+    pub fn step(&self) -> Option<Step> {
+        let pid = self.pid;
+        Some(match self.kind {
+            Kind::Setup => return None,
+            Kind::Request => Step::Request(self.input[..].try_into().ok()?),
+            Kind::Trap => Step::Trap { pid, block: self.input[..].try_into().ok()? },
+            Kind::Schedule => Step::Schedule { pid, block: self.input[..].try_into().ok()? },
+            Kind::State => Step::State { pid, value: self.value },
+            Kind::Restart => Step::Restart,
+        })
+    }
 }
 
 /// Where a record comes from, which says what a step on it must give.

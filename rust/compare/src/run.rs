@@ -68,7 +68,7 @@ impl Runner {
     pub fn run(&mut self, mut progress: impl FnMut(u64)) -> Done {
         while self.left > 0 {
             self.history.clear();
-            match self.maker.rng.weighted(&[72, 20, 8]) {
+            match self.maker.rng().weighted(&[72, 20, 8]) {
                 0 => self.session()?,
                 1 => self.damaged_session()?,
                 _ => self.refused_setups()?,
@@ -83,7 +83,7 @@ impl Runner {
         self.open()?;
         // Comparing a large window costs more than the steps.
         let most = if self.pair.lengths().0 > 4_096 { 30 } else { 130 };
-        for _ in 0..20 + self.maker.rng.below(most) {
+        for _ in 0..20 + self.maker.rng().below(most) {
             self.burst(Maker::burst)?;
         }
         Ok(())
@@ -92,15 +92,15 @@ impl Runner {
     /// A session that comes to something, then damage and more of the session by turns.
     fn damaged_session(&mut self) -> Done {
         self.open()?;
-        for _ in 0..3 + self.maker.rng.below(8) {
+        for _ in 0..3 + self.maker.rng().below(8) {
             self.burst(Maker::build_up)?;
         }
-        for _ in 0..10 + self.maker.rng.below(20) {
+        for _ in 0..10 + self.maker.rng().below(20) {
             self.burst(Maker::damage)?;
-            if self.maker.rng.chance(30) {
+            if self.maker.rng().chance(30) {
                 self.burst(Maker::build_up)?;
             }
-            if self.maker.rng.chance(30) {
+            if self.maker.rng().chance(30) {
                 self.burst(Maker::burst)?;
             }
         }
@@ -109,12 +109,12 @@ impl Runner {
 
     /// Setups that break a rule or have buffers of wrong size, and steps on what they leave.
     fn refused_setups(&mut self) -> Done {
-        for _ in 0..4 + self.maker.rng.below(8) {
-            let choice = self.maker.rng.index(RULES.len() + 3);
+        for _ in 0..4 + self.maker.rng().below(8) {
+            let choice = self.maker.rng().index(RULES.len() + 3);
             let rule = (choice < RULES.len()).then_some(choice);
             self.maker.opening(self.pair.record(), rule, &mut self.ops);
             if rule.is_none() {
-                spoil_sizes(&mut self.maker.rng, &mut self.ops);
+                spoil_sizes(self.maker.rng(), &mut self.ops);
             }
             self.maker.on_empty(&mut self.ops);
             self.apply()?;
@@ -127,8 +127,12 @@ impl Runner {
         self.apply()
     }
 
-    /// Ops that are aimed at what there is now.
+    /// Ops that are aimed at what there is now. A run may end with a record damaged, at which
+    /// there is nothing to aim.
     fn burst(&mut self, make: fn(&mut Maker, Scene<'_>, &mut Vec<Op>)) -> Done {
+        if self.left == 0 {
+            return Ok(());
+        }
         if let Some(scene) = self.pair.scene() {
             make(&mut self.maker, scene, &mut self.ops);
         }

@@ -1,34 +1,25 @@
-//! What a run reached.
-
-mod table;
+//! What a run reached: what steps came to, and what is this comparison's own.
 
 use crate::make::setup::RULES;
-use crate::make::sorts::SORTS;
+use crate::make::sorts::{Expect, SORTS};
 use crate::op::{Call, Kind, Op, Origin};
-use crate::pair::{Answer, Pair, Seen};
-use reference::{Reason, BLOCK, PC};
+use crate::pair::{Pair, Seen};
+use reference::{BLOCK, PC};
+use steps::table::{lacking, must, table, texts, Cell, Section};
+use steps::tally::{letter_index, letters_but, word};
 
-const LETTERS: [u8; 11] = *b"nkp*&=!aobd";
+const BUFFERS: [&str; 5] = ["memory", "registers", "request", "reply", "block"];
 const WINDOWS: [(&str, u32); 5] =
     [("4", 4), ("to 64", 64), ("to 4,096", 4_096), ("to 65,532", 65_532), ("65,536", 65_536)];
+/// The numbers that each kind can have.
+const NUMBERS: [&[usize]; 6] =
+    [&[0, 1, 2], &[0, 2, 3], &[0, 2, 3, 4, 5, 6], &[0, 2, 3, 4], &[0, 2, 3, 4, 5], &[0, 2, 3]];
+
 pub struct Tally {
-    numbers: [[u64; 7]; 6],
-    /// Requests of number 0, by type byte: all, served, and by reason.
-    types: Vec<[u64; 9]>,
-    resets: u64,
-    /// Stop, Pass, yes, no.
-    answers: [u64; 4],
-    accepted: [u64; 11],
-    refused: [u64; 11],
-    /// Those refused with count: a full table, or a 17th element.
-    full: [u64; 11],
+    steps: steps::tally::Tally,
+    /// Letters that were evaluated in a trap, and `*` that read outside the window.
     evaluated: [u64; 11],
-    /// Tcondbreaks with another letter, and `*` that read outside the window.
-    others: [u64; 2],
-    crossed: [u64; 4],
-    /// Stretches over the end of the registers, the window's beginning and end, and 2^32.
-    bounds: [u64; 4],
-    standing: [u64; 9],
+    read_outside: u64,
     rules: [u64; RULES.len()],
     /// By buffer: none, one less, one more, another size.
     sizes: [[u64; 4]; 5],
@@ -47,18 +38,9 @@ pub struct Tally {
 impl Default for Tally {
     fn default() -> Self {
         Self {
-            numbers: [[0; 7]; 6],
-            types: vec![[0; 9]; 256],
-            resets: 0,
-            answers: [0; 4],
-            accepted: [0; 11],
-            refused: [0; 11],
-            full: [0; 11],
+            steps: steps::tally::Tally::default(),
             evaluated: [0; 11],
-            others: [0; 2],
-            crossed: [0; 4],
-            bounds: [0; 4],
-            standing: [0; 9],
+            read_outside: 0,
             rules: [0; RULES.len()],
             sizes: [[0; 4]; 5],
             sorts: [[0; 3]; SORTS.len()],
@@ -72,14 +54,6 @@ impl Default for Tally {
     }
 }
 
-fn word(bytes: &[u8]) -> u32 {
-    bytes.iter().take(4).fold(0, |sum, &byte| sum << 8 | u32::from(byte))
-}
-
-fn letter_index(letter: u8) -> Option<usize> {
-    LETTERS.iter().position(|&one| one == letter)
-}
-
 impl Tally {
     /// Counts an op that was run on the pair.
     pub fn count(&mut self, op: &Op, seen: &Seen, pair: &Pair) {
@@ -90,30 +64,34 @@ impl Tally {
                 self.sorts[*sort][usize::from(number.saturating_sub(1))] += 1;
             }
             (Op::Record(_, Origin::Setup(rule)), _) => self.rule = *rule,
-            (Op::Step(call), Seen::Step { size, count }) => {
-                self.step(call, pair.answer(), (*size, *count), pair);
-            }
+            (Op::Step(call), Seen::Step { size, count }) => self.step(call, (*size, *count), pair),
             _ => {}
         }
     }
 
     /// `before` is the record's M and count of processes before the step.
-    fn step(&mut self, call: &Call, answer: &Answer, before: (u32, u32), pair: &Pair) {
-        self.numbers[call.kind as usize][usize::from(answer.number())] += 1;
-        if let Some(scene) = pair.scene() {
-            self.standing[scene.stub.table.iter().flatten().count()] += 1;
-        }
-        match (call.kind, answer.result) {
-            (_, [2, ..]) => self.wrong_sizes(call, before, pair),
-            (Kind::Setup, [0, ..]) => self.session(before, pair),
+    fn step(&mut self, call: &Call, before: (u32, u32), pair: &Pair) {
+        let answer = pair.answer();
+        let stub = pair.scene().map(|scene| scene.stub);
+        self.steps.number(call.kind as usize, answer.number(), stub);
+        match (call.kind, answer.number()) {
+            (_, 2) => self.wrong_sizes(call, before, pair),
+            (Kind::Setup, 0) => self.session(before, pair),
             (Kind::Setup, _) => self.refused_setup(),
-            (Kind::Request, [0, ..]) => self.request(call, answer, pair),
-            (Kind::Trap, [0, answer, ..]) => self.trap(call, answer, pair),
-            (Kind::Schedule, [0, answer, ..]) => self.answers[3 - usize::from(answer)] += 1,
-            (Kind::Restart, [0, ..]) => {
-                self.resets += u64::from(answer.reply[1..] == Reason::Reset.text());
-            }
+            (_, 0) => self.accepted(call, pair),
             _ => {}
+        }
+    }
+
+    fn accepted(&mut self, call: &Call, pair: &Pair) {
+        let (answer, step) = (pair.answer(), call.step());
+        if let Some((step, scene)) = step.zip(pair.scene()) {
+            let replied = call.kind.reply().is_some();
+            let bytes = if replied { &answer.reply } else { &answer.result[1..] };
+            self.steps.answer(&step, bytes, scene.stub);
+        }
+        if call.kind == Kind::Trap {
+            self.trap(call, pair);
         }
     }
 
@@ -131,63 +109,14 @@ impl Tally {
         }
     }
 
-    fn request(&mut self, call: &Call, answer: &Answer, pair: &Pair) {
-        let kind = call.input[0];
-        let counts = &mut self.types[usize::from(kind)];
-        counts[0] += 1;
-        if answer.is_rerr(call.kind) {
-            let same = |reason: &Reason| reason.text() == answer.reply[1..];
-            if let Some(reason) = Reason::ALL.iter().position(same) {
-                counts[2 + reason] += 1;
-            }
-        } else {
-            counts[1] += 1;
-        }
-        match kind {
-            2 | 4 => self.stretch(call, answer, pair),
-            16 => self.operation(call, answer),
-            _ => {}
-        }
-    }
-
-    fn operation(&mut self, call: &Call, answer: &Answer) {
-        let Some(i) = letter_index(call.input[5]) else {
-            self.others[0] += 1;
-            return;
-        };
-        if answer.is_rerr(call.kind) {
-            self.refused[i] += 1;
-            self.full[i] += u64::from(answer.reply[1..] == Reason::Count.text());
-        } else {
-            self.accepted[i] += 1;
-        }
-    }
-
-    /// A read or a write: the bounds that it meets, and the sites that it crosses.
-    fn stretch(&mut self, call: &Call, answer: &Answer, pair: &Pair) {
-        let Some(scene) = pair.scene() else { return };
-        let (base, size) = (u64::from(scene.stub.base), u64::from(scene.stub.size));
-        let start = u64::from(word(&call.input[1..]));
-        let end = start + u64::from(call.input[5].min(9));
-        for (count, bound) in self.bounds.iter_mut().zip([136, base, base + size, 1 << 32]) {
-            *count += u64::from(start < bound && bound < end);
-        }
-        if call.input[0] == 4 && answer.reply[0] == 5 && start >= base && end > start {
-            let sites = scene.stub.table.iter().flatten().map(|entry| u64::from(entry.site));
-            let crossed = sites.filter(|&site| start < site + 2 && site < end).count();
-            self.crossed[crossed.min(3)] += 1;
-        }
-    }
-
     /// The letters that were evaluated are the book's to say; a trap changes nothing that it reads.
-    fn trap(&mut self, call: &Call, answer: u8, pair: &Pair) {
-        self.answers[usize::from(answer) - 1] += 1;
+    fn trap(&mut self, call: &Call, pair: &Pair) {
         let pc = word(&call.input[PC..]);
         let Some(done) = pair.book().and_then(|book| book.evaluated(call.pid, pc)) else { return };
         for letter in done.elements.iter().filter_map(|one| letter_index(one.0)) {
             self.evaluated[letter] += 1;
         }
-        self.others[1] += u64::from(done.outside);
+        self.read_outside += u64::from(done.outside);
     }
 
     fn wrong_sizes(&mut self, call: &Call, (size, count): (u32, u32), pair: &Pair) {
@@ -209,5 +138,79 @@ impl Tally {
                 counts[near.iter().position(|&one| one == length).unwrap_or(3)] += 1;
             }
         }
+    }
+
+    // ---- As a table. ----
+
+    fn sections(&self) -> Vec<Section> {
+        let [mut by_number, by_type, by_answer, mut by_letter] = self.steps.sections(&NUMBERS);
+        by_number.row("outside change", must(&[self.outside]));
+        by_number.row("register area replaced", must(&[self.areas]));
+        by_letter.row("evaluated in a trap", letters_but(b"nbd", &self.evaluated));
+        by_letter.row("* outside the window", must(&[self.read_outside]));
+        vec![
+            by_number,
+            by_type,
+            by_answer,
+            by_letter,
+            self.by_window(),
+            self.by_rule(),
+            self.by_size(),
+            self.by_sort(),
+        ]
+    }
+
+    fn by_window(&self) -> Section {
+        let (mut columns, mut counts) = (Vec::new(), Vec::new());
+        for ((name, _), count) in WINDOWS.iter().zip(self.windows) {
+            columns.push((*name).to_string());
+            counts.push(Cell::Must(count));
+        }
+        let rows = vec![
+            ("by M".to_string(), counts),
+            ("with 1 to 4 processes".to_string(), must(&self.processes)),
+            ("B + M is 2^32".to_string(), must(&[self.at_top])),
+        ];
+        Section { title: "accepted setups", columns, rows }
+    }
+
+    fn by_rule(&self) -> Section {
+        let rows = RULES.iter().zip(self.rules);
+        let rows = rows.map(|(rule, count)| (rule.name.to_string(), must(&[count]))).collect();
+        Section { title: "setups refused, by the rule broken", columns: Vec::new(), rows }
+    }
+
+    fn by_size(&self) -> Section {
+        let rows = BUFFERS.iter().zip(&self.sizes);
+        let rows = rows.map(|(name, counts)| (name.to_string(), must(counts))).collect();
+        let columns = texts(["none", "one less", "one more", "another"]);
+        Section { title: "buffers of wrong size (number 2)", columns, rows }
+    }
+
+    fn by_sort(&self) -> Section {
+        let cells = |expect: Expect, [fit, size, unfit]: [u64; 3]| match expect {
+            Expect::Fit => vec![Cell::Must(fit), Cell::None, Cell::None],
+            Expect::Size => vec![Cell::None, Cell::Must(size), Cell::None],
+            Expect::Unfit => vec![Cell::None, Cell::None, Cell::Must(unfit)],
+            Expect::Any(reached) => [(0, fit), (2, size), (3, unfit)]
+                .map(|(number, count)| match reached.contains(&number) {
+                    true => Cell::Must(count),
+                    false => Cell::May(count),
+                })
+                .into(),
+        };
+        let rows = SORTS.iter().zip(self.sorts);
+        let rows = rows.map(|(sort, counts)| (sort.name.to_string(), cells(sort.expect, counts)));
+        let columns = texts(["fit", "number 2", "number 3"]);
+        Section { title: "spoiled records, by sort of damage", columns, rows: rows.collect() }
+    }
+
+    pub fn table(&self) -> String {
+        table(&self.sections())
+    }
+
+    /// What had to be reached and was not.
+    pub fn lacking(&self) -> Vec<String> {
+        lacking(&self.sections())
     }
 }

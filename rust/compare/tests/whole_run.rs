@@ -26,3 +26,10 @@ fn a_short_run_lacks_something_and_a_long_one_nothing() {
         assert_eq!(table(seed, 200_000).1, Vec::<String>::new());
     }
 }
+
+#[test]
+fn a_run_may_end_anywhere() {
+    for seed in 0..400 {
+        table(seed, 300);
+    }
+}

@@ -1,15 +1,69 @@
-//! The calls into the archive: the crate's only unsafe code.
+//! The calls into the archive: the crate's only unsafe code. A step called so answers as the archive
+//! does, in one number; [`Stub`](crate::Stub) answers with enums.
 
 use crate::ffi::{self, Fields, Found, Target};
+use crate::{BLOCK, MESSAGE};
 
 /// The archive's six steps.
-pub(crate) enum Step {
+#[derive(Debug, Clone, Copy, PartialEq, Eq)]
+pub enum Kind {
+    /// A setup.
     Setup,
+    /// A request.
     Request,
+    /// A trap event.
     Trap,
+    /// A schedule event.
     Schedule,
+    /// A state event.
     State,
+    /// A restart.
     Restart,
+}
+
+impl Kind {
+    /// All of them.
+    pub const ALL: [Self; 6] =
+        [Self::Setup, Self::Request, Self::Trap, Self::Schedule, Self::State, Self::Restart];
+
+    /// The name that its function ends with.
+    pub fn name(self) -> &'static str {
+        match self {
+            Self::Setup => "setup",
+            Self::Request => "request",
+            Self::Trap => "trap",
+            Self::Schedule => "schedule",
+            Self::State => "state",
+            Self::Restart => "restart",
+        }
+    }
+
+    /// The bytes of input that it is to be lent, where it uses input.
+    pub fn input(self) -> Option<usize> {
+        match self {
+            Self::Request => Some(MESSAGE),
+            Self::Trap | Self::Schedule => Some(BLOCK),
+            _ => None,
+        }
+    }
+
+    /// The bytes of reply that it is to be lent, where it uses the reply.
+    pub fn reply(self) -> Option<usize> {
+        matches!(self, Self::Request | Self::Restart).then_some(MESSAGE)
+    }
+
+    /// Its function. Inlined, so that a call of a constant kind is a direct one.
+    #[inline(always)]
+    pub fn function(self) -> ffi::Step {
+        match self {
+            Self::Setup => ffi::sanirvoq_step_setup,
+            Self::Request => ffi::sanirvoq_step_request,
+            Self::Trap => ffi::sanirvoq_step_trap,
+            Self::Schedule => ffi::sanirvoq_step_schedule,
+            Self::State => ffi::sanirvoq_step_state,
+            Self::Restart => ffi::sanirvoq_step_restart,
+        }
+    }
 }
 
 /// What a step is lent. A step leaves what it does not use as it is.
@@ -17,27 +71,28 @@ pub(crate) enum Step {
 /// Memory and registers are `&mut` in every step. The steps that change neither are proved to leave
 /// them equal, which is less than to write nothing: over a shared slice even a write of the byte
 /// that is there already would be a race with other readers.
-pub(crate) struct Lent<'a> {
-    pub(crate) record: &'a mut Target,
-    pub(crate) memory: &'a mut [u8],
-    pub(crate) registers: &'a mut [u8],
-    pub(crate) pid: u32,
-    pub(crate) value: u8,
-    pub(crate) input: &'a [u8],
-    pub(crate) reply: &'a mut [u8],
+pub struct Lent<'a> {
+    /// The record.
+    pub record: &'a mut Target,
+    /// The memory of the window.
+    pub memory: &'a mut [u8],
+    /// The register area.
+    pub registers: &'a mut [u8],
+    /// The process of an event.
+    pub pid: u32,
+    /// The value of a state event.
+    pub value: u8,
+    /// A request, or the saved block of an event.
+    pub input: &'a [u8],
+    /// Where a request or a restart is answered.
+    pub reply: &'a mut [u8],
 }
 
 impl Lent<'_> {
     /// The step's result: its number in the lowest byte, then the three bytes of its answer.
-    pub(crate) fn call(self, step: Step) -> u32 {
-        let function: ffi::Step = match step {
-            Step::Setup => ffi::sanirvoq_step_setup,
-            Step::Request => ffi::sanirvoq_step_request,
-            Step::Trap => ffi::sanirvoq_step_trap,
-            Step::Schedule => ffi::sanirvoq_step_schedule,
-            Step::State => ffi::sanirvoq_step_state,
-            Step::Restart => ffi::sanirvoq_step_restart,
-        };
+    #[inline(always)]
+    pub fn call(self, kind: Kind) -> u32 {
+        let function = kind.function();
         // SAFETY: A step asks for pointers that are valid for the lengths given, not null, apart
         // from each other and left alone by others during the call. Each pointer and its length
         // come from one reference here; references are never null, and the four `&mut` and the `&`

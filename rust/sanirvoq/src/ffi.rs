@@ -129,8 +129,19 @@ const _: () = assert!(size_of::<Target>() == 1324 && align_of::<Target>() == 4);
 const _: () = assert!(offset_of!(Target, table) == 68);
 const _: () = assert!(size_of::<Fields>() == 20);
 
-/// The form of every step; see the header for which arguments each uses.
-pub type Step = unsafe extern "C" fn(
+/// The arguments and the result of every step, once.
+macro_rules! steps {
+    ($arguments:tt -> $result:ty { $($(#[$doc:meta])* $name:ident),* $(,)? }) => {
+        /// The form of every step; see the header for which arguments each uses.
+        pub type Step = unsafe extern "C" fn $arguments -> $result;
+
+        unsafe extern "C" {
+            $($(#[$doc])* pub fn $name $arguments -> $result;)*
+        }
+    };
+}
+
+steps!((
     target: *mut Target,
     memory: *mut u8,
     memory_length: usize,
@@ -142,29 +153,7 @@ pub type Step = unsafe extern "C" fn(
     input_length: usize,
     reply: *mut u8,
     reply_length: usize,
-) -> u32;
-
-macro_rules! steps {
-    ($($(#[$doc:meta])* $name:ident),* $(,)?) => {
-        unsafe extern "C" {
-            $($(#[$doc])* pub fn $name(
-                target: *mut Target,
-                memory: *mut u8,
-                memory_length: usize,
-                registers: *mut u8,
-                registers_length: usize,
-                pid: u32,
-                value: u8,
-                input: *const u8,
-                input_length: usize,
-                reply: *mut u8,
-                reply_length: usize,
-            ) -> u32;)*
-        }
-    };
-}
-
-steps!(
+) -> u32 {
     /// A setup.
     sanirvoq_step_setup,
     /// A request.
@@ -177,7 +166,7 @@ steps!(
     sanirvoq_step_state,
     /// A restart.
     sanirvoq_step_restart,
-);
+});
 
 unsafe extern "C" {
     /// Writes a message's ten bytes.

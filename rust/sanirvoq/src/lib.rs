@@ -37,7 +37,7 @@
 #![deny(unsafe_code, missing_docs)]
 
 #[allow(unsafe_code)]
-mod call;
+pub mod call;
 #[allow(unsafe_code)]
 pub mod ffi;
 mod message;

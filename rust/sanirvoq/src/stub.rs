@@ -1,6 +1,6 @@
 //! The steps of the stub over slices.
 
-use crate::call::{Lent, Step};
+use crate::call::{Kind, Lent};
 use crate::ffi::{Process, Target};
 use crate::Refusal;
 
@@ -53,7 +53,7 @@ impl Stub {
         for (process, &(pid, address)) in self.record.processes.iter_mut().zip(processes) {
             *process = Process { pid, address, ..Process::default() };
         }
-        answer(self.lent(memory, registers).call(Step::Setup)).map(drop)
+        answer(self.lent(memory, registers).call(Kind::Setup)).map(drop)
     }
 
     /// Serves a request of ten bytes with ten reply bytes, which may be Rerr.
@@ -66,7 +66,7 @@ impl Stub {
         reply: &mut [u8],
     ) -> Result<(), Refusal> {
         let lent = Lent { input: request, reply, ..self.lent(memory, registers) };
-        answer(lent.call(Step::Request)).map(drop)
+        answer(lent.call(Kind::Request)).map(drop)
     }
 
     /// A process ran into a trap, with these 136 bytes of registers. Refused with
@@ -79,7 +79,7 @@ impl Stub {
         block: &[u8],
     ) -> Result<Verdict, Refusal> {
         let lent = Lent { pid, input: block, ..self.lent(memory, registers) };
-        answer(lent.call(Step::Trap)).map(verdict)
+        answer(lent.call(Kind::Trap)).map(verdict)
     }
 
     /// The kernel is about to run a process, with these 136 bytes of registers: whether it is to
@@ -92,7 +92,7 @@ impl Stub {
         block: &[u8],
     ) -> Result<bool, Refusal> {
         let lent = Lent { pid, input: block, ..self.lent(memory, registers) };
-        answer(lent.call(Step::Schedule)).map(|[stops, ..]| stops == 1)
+        answer(lent.call(Kind::Schedule)).map(|[stops, ..]| stops == 1)
     }
 
     /// The kernel gives a process another state byte. Refused with [`Refusal::Size`], `Unfit`,
@@ -105,7 +105,7 @@ impl Stub {
         value: u8,
     ) -> Result<(), Refusal> {
         let lent = Lent { pid, value, ..self.lent(memory, registers) };
-        answer(lent.call(Step::State)).map(drop)
+        answer(lent.call(Kind::State)).map(drop)
     }
 
     /// The debug session begins anew: every trap's plain bytes go back. The reply is Rerr reset.
@@ -117,7 +117,7 @@ impl Stub {
         reply: &mut [u8],
     ) -> Result<(), Refusal> {
         let lent = Lent { reply, ..self.lent(memory, registers) };
-        answer(lent.call(Step::Restart)).map(drop)
+        answer(lent.call(Kind::Restart)).map(drop)
     }
 
     /// A stub of any record: one that is not fit is refused by every step.

@@ -4,10 +4,10 @@ use super::sorts::{Expect, SORTS};
 use super::{Scene, Writer};
 use crate::op::{Op, Origin};
 use crate::record::Record;
-use crate::rng::Rng;
 use reference::{BLOCK, ELEMENTS, ENTRIES, TRAP};
 use sanirvoq::ffi::{Draft, Element, Entry, Process, Table, Target};
 use std::mem::offset_of;
+use steps::{Burst, Rng, Step};
 
 const LETTERS: [u8; 8] = *b"kp*&=!ao";
 pub const OPERATORS: [u8; 6] = *b"*&=!ao";
@@ -207,18 +207,12 @@ pub fn random_table(target: &mut Target, noise: &Target, rng: &mut Rng) {
 impl Writer<'_> {
     /// Something that gives damage a hold.
     pub fn build_up(&mut self) {
-        match self.rng.weighted(&[40, 15, 25, 10, 10]) {
-            0 => self.condition(),
-            1 => self.fill(),
-            2 => self.trap(),
-            3 => self.schedule(),
-            _ => {
-                let id = self.free_id();
-                self.op(b'n', id);
-                for (letter, val) in self.elements() {
-                    self.op(letter, val);
-                }
-            }
+        match self.burst.rng.weighted(&[40, 15, 25, 10, 10]) {
+            0 => self.steps(Burst::condition),
+            1 => self.steps(Burst::fill),
+            2 => self.steps(Burst::trap),
+            3 => self.steps(Burst::schedule),
+            _ => self.steps(Burst::begin),
         }
     }
 
@@ -230,7 +224,7 @@ impl Writer<'_> {
         self.ops.extend(memory.map(Op::Memory));
         self.ops.extend(registers.map(Op::Registers));
         self.ops.push(Op::Record(record, Origin::Damaged(sort)));
-        for _ in 0..=self.rng.below(if may_go_on { 6 } else { 2 }) {
+        for _ in 0..=self.burst.rng.below(if may_go_on { 6 } else { 2 }) {
             self.try_out();
         }
         if may_go_on || !unharmed {
@@ -243,10 +237,10 @@ impl Writer<'_> {
     /// A record with damage of a sort that it has something for.
     fn damaged(&mut self) -> (usize, Damaged) {
         loop {
-            let sort = self.rng.index(SORTS.len());
+            let sort = self.burst.rng.index(SORTS.len());
             let record = Box::new(self.scene.record.clone());
             let made = Damaged { record, memory: None, registers: None };
-            let mut damage = Damage { rng: self.rng, scene: &self.scene, made };
+            let mut damage = Damage { rng: self.burst.rng, scene: &self.scene, made };
             if (SORTS[sort].apply)(&mut damage).is_some() {
                 return (sort, damage.made);
             }
@@ -255,16 +249,16 @@ impl Writer<'_> {
 
     /// A step of any kind that would do something.
     fn try_out(&mut self) {
-        match self.rng.below(10) {
-            0 => self.memory(),
-            1 => self.condition(),
-            2 => self.pid_request(),
-            3 | 4 => self.trap(),
-            5 => self.schedule(),
-            6 => self.other_state(),
-            7 => self.restart(),
+        match self.burst.rng.below(10) {
+            0 => self.steps(Burst::memory),
+            1 => self.steps(Burst::condition),
+            2 => self.steps(Burst::pid_request),
+            3 | 4 => self.steps(Burst::trap),
+            5 => self.steps(Burst::schedule),
+            6 => self.steps(Burst::state),
+            7 => self.steps(|burst| burst.steps.push(Step::Restart)),
             8 => self.wrong_size(),
-            _ => self.noise(),
+            _ => self.steps(Burst::noise),
         }
     }
 }

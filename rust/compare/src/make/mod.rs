@@ -1,8 +1,6 @@
 //! Makes ops from a seed: a few at a time, aimed at what the sides have at that moment.
 
 mod acts;
-mod aim;
-mod conditions;
 mod damage;
 pub mod setup;
 mod sizes;
@@ -10,8 +8,8 @@ pub mod sorts;
 
 use crate::op::{Call, Kind, Op};
 use crate::record::Record;
-use crate::rng::Rng;
-use reference::{Stub, BLOCK, MESSAGE, PC};
+use reference::Stub;
+use steps::{Burst, Generator, Rng, Step};
 
 /// What there is to aim at.
 pub struct Scene<'a> {
@@ -23,24 +21,26 @@ pub struct Scene<'a> {
 
 /// What goes on from one burst to the next.
 pub struct Maker {
-    pub rng: Rng,
-    /// The type byte that a request of any type has next.
-    kind: u8,
+    generator: Generator,
 }
 
 impl Maker {
     pub fn new(seed: u64) -> Self {
-        Self { rng: Rng(seed), kind: 0 }
+        Self { generator: Generator::new(seed) }
+    }
+
+    pub fn rng(&mut self) -> &mut Rng {
+        &mut self.generator.rng
     }
 
     /// Arguments and buffers for a setup, and the setup; one that breaks a rule where one is named.
     pub fn opening(&mut self, record: &Record, rule: Option<usize>, ops: &mut Vec<Op>) {
-        setup::opening(&mut self.rng, record, rule, ops);
+        setup::opening(self.rng(), record, rule, ops);
     }
 
     /// Steps on the record that a refused setup leaves, with and without buffers.
     pub fn on_empty(&mut self, ops: &mut Vec<Op>) {
-        setup::on_empty(&mut self.rng, ops);
+        setup::on_empty(self.rng(), ops);
     }
 
     /// One thing that may happen in a session.
@@ -59,81 +59,45 @@ impl Maker {
     }
 
     fn writer<'a>(&'a mut self, scene: Scene<'a>, ops: &'a mut Vec<Op>) -> Writer<'a> {
-        Writer { rng: &mut self.rng, kind: &mut self.kind, scene, ops }
+        Writer { burst: self.generator.burst(scene.stub, scene.memory), scene, ops }
     }
 }
 
-/// Writes one burst. The scene stays that of its beginning.
+/// Writes the ops of one burst. The scene stays that of its beginning.
 struct Writer<'a> {
-    rng: &'a mut Rng,
-    kind: &'a mut u8,
+    burst: Burst<'a>,
     scene: Scene<'a>,
     ops: &'a mut Vec<Op>,
 }
 
-/// A number and what follows, zero padded.
-fn ten(kind: u8, number: u32, rest: &[u8]) -> [u8; MESSAGE] {
-    let mut bytes = [0; MESSAGE];
-    bytes[0] = kind;
-    bytes[1..5].copy_from_slice(&number.to_be_bytes());
-    bytes[5..5 + rest.len()].copy_from_slice(rest);
-    bytes
-}
-
-/// A saved block with this pc.
-fn block(rng: &mut Rng, pc: u32) -> Vec<u8> {
-    let mut bytes = rng.bytes(BLOCK);
-    bytes[PC..].copy_from_slice(&pc.to_be_bytes());
-    bytes
-}
-
 /// A call with what its kind uses, and anything in what it does not.
-fn call(rng: &mut Rng, kind: Kind, pid: u32, value: u8, input: Vec<u8>) -> Call {
+fn call(rng: &mut Rng, step: Step) -> Call {
     let noise = rng.next_u64().to_le_bytes();
+    let (any_pid, any_value) = (rng.word(), noise[3]);
     let spare = usize::from(noise[0] % 12);
-    let input = if kind.input().is_some() { input } else { vec![noise[1]; spare] };
+    let any_input = vec![noise[1]; spare];
+    let (kind, pid, value, input) = match step {
+        Step::Request(request) => (Kind::Request, any_pid, any_value, request.to_vec()),
+        Step::Trap { pid, block } => (Kind::Trap, pid, any_value, block.to_vec()),
+        Step::Schedule { pid, block } => (Kind::Schedule, pid, any_value, block.to_vec()),
+        Step::State { pid, value } => (Kind::State, pid, value, any_input),
+        Step::Restart => (Kind::Restart, any_pid, any_value, any_input),
+    };
     let reply = kind.reply().unwrap_or(spare);
     Call { kind, pid, value, input, reply, fill: noise[2], memory: None, registers: None }
 }
 
-impl Writer<'_> {
-    fn step(&mut self, kind: Kind, pid: u32, value: u8, input: Vec<u8>) {
-        let call = call(self.rng, kind, pid, value, input);
-        self.ops.push(Op::Step(call));
-    }
+/// A setup; what it does not use is anything.
+fn setup_call(rng: &mut Rng) -> Call {
+    Call { kind: Kind::Setup, ..call(rng, Step::Restart) }
+}
 
-    /// A request as it is.
-    fn send(&mut self, request: [u8; MESSAGE]) {
-        let noise = self.rng.next_u64();
-        self.step(Kind::Request, noise as u32, (noise >> 32) as u8, request.to_vec());
-    }
-
-    /// A request, now and then with one byte changed.
-    fn ask(&mut self, mut request: [u8; MESSAGE]) {
-        if self.rng.chance(2) {
-            let place = self.rng.index(MESSAGE);
-            let noise = [self.rng.byte().max(1), 1, 0x20, 0x80];
-            request[place] ^= self.rng.pick(&noise);
+impl<'a> Writer<'a> {
+    /// Steps of the session.
+    fn steps(&mut self, make: impl FnOnce(&mut Burst<'a>)) {
+        make(&mut self.burst);
+        for step in self.burst.steps.drain(..) {
+            self.ops.push(Op::Step(call(self.burst.rng, step)));
         }
-        self.send(request);
-    }
-
-    /// A Tcondbreak.
-    fn op(&mut self, letter: u8, val: u32) {
-        self.ask(ten(16, val, &[letter]));
-    }
-
-    fn event(&mut self, kind: Kind, pid: u32, pc: u32) {
-        let (input, value) = (block(self.rng, pc), self.rng.byte());
-        self.step(kind, pid, value, input);
-    }
-
-    fn state(&mut self, pid: u32, value: u8) {
-        self.step(Kind::State, pid, value, Vec::new());
-    }
-
-    fn restart(&mut self) {
-        let noise = self.rng.word();
-        self.step(Kind::Restart, noise, noise as u8, Vec::new());
     }
 }

@@ -1,11 +1,12 @@
 //! Setups, accepted and refused.
 
-use super::{block, call, sizes, ten};
-use crate::op::{Kind, Op, Origin};
+use super::{call, setup_call, sizes};
+use crate::op::{Op, Origin};
 use crate::record::Record;
-use crate::rng::Rng;
 use reference::BLOCK;
 use sanirvoq::ffi::Target;
+use steps::step::ten;
+use steps::{Rng, Step};
 
 /// A rule of setup and a way to break it alone.
 pub struct Rule {
@@ -88,7 +89,7 @@ pub fn opening(rng: &mut Rng, record: &Record, rule: Option<usize>, ops: &mut Ve
     ops.push(Op::Memory(content(rng, size)));
     ops.push(Op::Registers(rng.bytes(BLOCK * count)));
     ops.push(Op::Record(asked, Origin::Setup(rule)));
-    ops.push(setup(rng));
+    ops.push(Op::Step(setup_call(rng)));
 }
 
 /// The setup of an opening is lent buffers of wrong size.
@@ -96,11 +97,6 @@ pub fn spoil_sizes(rng: &mut Rng, ops: &mut [Op]) {
     if let [.., Op::Memory(memory), Op::Registers(registers), _, Op::Step(call)] = ops {
         sizes::spoil(rng, call, memory.len(), registers.len());
     }
-}
-
-fn setup(rng: &mut Rng) -> Op {
-    let noise = rng.next_u64();
-    Op::Step(call(rng, Kind::Setup, noise as u32, (noise >> 32) as u8, Vec::new()))
 }
 
 /// What is in a record before a setup.
@@ -164,7 +160,7 @@ pub fn on_empty(rng: &mut Rng, ops: &mut Vec<Op>) {
         ops.push(blind(rng));
     }
     if rng.chance(20) {
-        ops.push(setup(rng));
+        ops.push(Op::Step(setup_call(rng)));
     }
     ops.push(Op::Memory(Vec::new()));
     ops.push(Op::Registers(Vec::new()));
@@ -175,12 +171,8 @@ pub fn on_empty(rng: &mut Rng, ops: &mut Vec<Op>) {
 
 /// A step of right size that was aimed at nothing.
 fn blind(rng: &mut Rng) -> Op {
-    let kind = rng.pick(&Kind::ALL[1..]);
-    let (number, n) = (4_096 + rng.below(64), rng.below(5) as u8);
-    let input = match kind {
-        Kind::Request => ten(2 * rng.below(12) as u8, number, &[n]).to_vec(),
-        _ => block(rng, number),
-    };
-    let (pid, value) = (rng.below(12), rng.byte());
-    Op::Step(call(rng, kind, pid, value, input))
+    let (pid, number, n) = (rng.below(12), 4_096 + rng.below(64), rng.below(5) as u8);
+    let request = ten(2 * rng.below(12) as u8, number, &[n]);
+    let step = Step::any(rng, request, pid, number);
+    Op::Step(call(rng, step))
 }

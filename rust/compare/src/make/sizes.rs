@@ -1,35 +1,33 @@
 //! Buffers of wrong size.
 
-use super::{block, call, ten, Writer};
-use crate::op::{Call, Kind, Op};
-use crate::rng::Rng;
+use super::{call, Writer};
+use crate::op::{Call, Op};
+use reference::MESSAGE;
+use steps::step::ten;
+use steps::{Rng, Step};
 
 impl Writer<'_> {
     /// A step that would do something, but for one buffer or more of wrong size.
     pub fn wrong_size(&mut self) {
-        let kind = self.rng.pick(&Kind::ALL[1..]);
-        let (pid, site) = (self.pid(10), self.standing_site());
-        let input = match kind {
-            Kind::Request => self.changing_request(pid, site).to_vec(),
-            _ => block(self.rng, site),
-        };
-        let value = self.rng.byte();
-        let mut call = call(self.rng, kind, pid, value, input);
-        spoil(self.rng, &mut call, self.scene.memory.len(), self.scene.registers.len());
+        let (pid, site) = (self.burst.pid(10), self.burst.standing_site());
+        let request = self.changing_request(pid, site);
+        let step = Step::any(self.burst.rng, request, pid, site);
+        let mut call = call(self.burst.rng, step);
+        spoil(self.burst.rng, &mut call, self.scene.memory.len(), self.scene.registers.len());
         self.ops.push(Op::Step(call));
     }
 
     /// A request that mostly changes something.
-    fn changing_request(&mut self, pid: u32, site: u32) -> [u8; 10] {
-        let id = self.free_id();
+    fn changing_request(&mut self, pid: u32, site: u32) -> [u8; MESSAGE] {
+        let id = self.burst.free_id();
         let choices = [
-            ten(4, site, &[1, self.rng.byte()]),
+            ten(4, site, &[1, self.burst.rng.byte()]),
             ten(16, id, b"n"),
             ten(6, pid, &[]),
             ten(12, pid, &[]),
             ten(14, pid, &[]),
         ];
-        self.rng.pick(&choices)
+        self.burst.rng.pick(&choices)
     }
 }
 

@@ -1,12 +1,13 @@
 //! Conditions: whole ones, long ones, faulty ones, and breakpoints until the table is full.
 
-use super::{ten, Writer};
+use crate::burst::Burst;
+use crate::step::ten;
+use crate::LETTERS;
 use reference::Element;
 
 const JOINS: [u8; 5] = *b"&=!ao";
-const LETTERS: [u8; 11] = *b"nkp*&=!aobd";
 
-impl Writer<'_> {
+impl Burst<'_> {
     /// A whole condition, now and then with another step inside or a fault.
     pub fn condition(&mut self) {
         let id = self.id([4, 92, 4]);
@@ -30,8 +31,17 @@ impl Writer<'_> {
         self.op(b'b', site);
     }
 
+    /// A condition that is left in hand.
+    pub fn begin(&mut self) {
+        let id = self.free_id();
+        self.op(b'n', id);
+        for (letter, val) in self.elements() {
+            self.op(letter, val);
+        }
+    }
+
     /// The elements of a condition that is well formed.
-    pub fn elements(&mut self) -> Vec<(u8, u32)> {
+    fn elements(&mut self) -> Vec<(u8, u32)> {
         let (pid, other) = (self.pid(15), self.pid(50));
         let (low, end) = (self.rng.pick(&[0, 0, 1, 2]), self.rng.pick(b"aao"));
         match self.rng.weighted(&[10, 14, 26, 12, 20, 4, 6, 5, 3]) {
@@ -54,7 +64,7 @@ impl Writer<'_> {
     fn looked_at(&mut self) -> (u32, u32) {
         let address = self.address();
         let mut bytes = [0; 4];
-        let inside = self.scene.stub.read_plain(self.scene.memory, address, &mut bytes);
+        let inside = self.stub.read_plain(self.memory, address, &mut bytes);
         let value = inside.map(|()| u32::from_le_bytes(bytes));
         (address, value.unwrap_or_else(|| self.rng.word()))
     }
@@ -111,7 +121,7 @@ impl Writer<'_> {
 
     /// Breakpoints in a row until the table is full, then one more n.
     pub fn fill(&mut self) {
-        let free = self.scene.stub.table.iter().filter(|slot| slot.is_none()).count();
+        let free = self.stub.table.iter().filter(|slot| slot.is_none()).count();
         let (mut site, mut id) = (self.free_site(), self.free_id());
         for _ in 0..=free {
             self.op(b'n', id);
@@ -131,18 +141,18 @@ impl Writer<'_> {
     /// The next id that no breakpoint of the scene has.
     fn next_id(&self, id: u32) -> u32 {
         let mut ids = (1..=9).map(|i| (id + i) % 256);
-        ids.find(|&id| self.scene.stub.of_id(id).is_none()).unwrap_or(0)
+        ids.find(|&id| self.stub.of_id(id).is_none()).unwrap_or(0)
     }
 
     /// The next site that the scene has free, from the window's beginning again past its end.
     fn next_site(&self, site: u32) -> u32 {
-        let (base, size) = (self.scene.stub.base, self.scene.stub.size);
+        let (base, size) = (self.stub.base, self.stub.size);
         let after = |i: u32| base + (site.wrapping_sub(base) + 2 * i) % size;
         (1..=9).map(after).find(|&site| self.is_free(site)).unwrap_or(base)
     }
 
     /// A condition of 16 elements and a 17th, with or without the values that it needs.
-    pub fn long(&mut self) {
+    pub(crate) fn long(&mut self) {
         let id = self.free_id();
         self.op(b'n', id);
         let closed = self.rng.chance(50);
@@ -158,7 +168,7 @@ impl Writer<'_> {
     }
 
     /// A Tcondbreak for whatever is in hand.
-    pub fn stray(&mut self) {
+    pub(crate) fn stray(&mut self) {
         let any = self.rng.byte();
         let known = self.rng.pick(&LETTERS);
         let letter = self.rng.pick(&[known, known, known, any]);
@@ -167,7 +177,7 @@ impl Writer<'_> {
         self.op(letter, val);
     }
 
-    pub fn delete(&mut self) {
+    pub(crate) fn delete(&mut self) {
         let id = self.id([75, 15, 10]);
         if self.rng.chance(20) {
             // d with a non-zero byte in its op, or in the ninth data byte.

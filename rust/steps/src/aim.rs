@@ -1,30 +1,31 @@
 //! Numbers that mean something to the record at hand, and some beside them.
 
-use super::Writer;
+use crate::burst::Burst;
 use reference::{Breakpoint, ENTRIES, STOPPED};
 
 /// The first and last registers, and what is next to them.
-pub const EDGES: [u32; 16] = [0, 1, 2, 3, 4, 5, 127, 128, 129, 130, 131, 132, 133, 134, 135, 136];
+pub(crate) const EDGES: [u32; 16] =
+    [0, 1, 2, 3, 4, 5, 127, 128, 129, 130, 131, 132, 133, 134, 135, 136];
 
-impl Writer<'_> {
+impl Burst<'_> {
     /// The first address past the window; 0 where the window ends at 2^32.
-    pub fn end(&self) -> u32 {
-        self.scene.stub.base.wrapping_add(self.scene.stub.size)
+    pub(crate) fn end(&self) -> u32 {
+        self.stub.base.wrapping_add(self.stub.size)
     }
 
     /// Any address of the window.
     pub fn inside(&mut self) -> u32 {
-        self.scene.stub.base + self.rng.below(self.scene.stub.size)
+        self.stub.base + self.rng.below(self.stub.size)
     }
 
-    pub fn even(&mut self) -> u32 {
+    pub(crate) fn even(&mut self) -> u32 {
         self.inside() & !1
     }
 
     /// A breakpoint, if there is one.
-    pub fn point(&mut self) -> Option<Breakpoint> {
+    pub(crate) fn point(&mut self) -> Option<Breakpoint> {
         let start = self.rng.index(ENTRIES);
-        let table = &self.scene.stub.table;
+        let table = &self.stub.table;
         (0..ENTRIES).find_map(|i| table[(start + i) % ENTRIES])
     }
 
@@ -34,13 +35,13 @@ impl Writer<'_> {
     }
 
     /// Whether a breakpoint may be set there.
-    pub fn is_free(&self, site: u32) -> bool {
-        let inside = site.wrapping_sub(self.scene.stub.base) < self.scene.stub.size;
-        inside && self.scene.stub.at_site(site).is_none()
+    pub(crate) fn is_free(&self, site: u32) -> bool {
+        let inside = site.wrapping_sub(self.stub.base) < self.stub.size;
+        inside && self.stub.at_site(site).is_none()
     }
 
     /// Mostly a free site, beside a standing one where there is room.
-    pub fn free_site(&mut self) -> u32 {
+    pub(crate) fn free_site(&mut self) -> u32 {
         let site = self.standing_site();
         let by = self.rng.pick(&[2u32, 2u32.wrapping_neg()]);
         let near = (1..5).map(|i| site.wrapping_add(by.wrapping_mul(i)));
@@ -49,13 +50,13 @@ impl Writer<'_> {
     }
 
     /// A site for b: mostly free, else taken, odd, outside or anywhere even.
-    pub fn site(&mut self) -> u32 {
+    pub(crate) fn site(&mut self) -> u32 {
         match self.rng.weighted(&[55, 6, 5, 6, 28]) {
             0 => self.free_site(),
             1 => self.standing_site(),
             2 => self.inside() | 1,
             3 => {
-                let (any, end, base) = (self.rng.word(), self.end(), self.scene.stub.base);
+                let (any, end, base) = (self.rng.word(), self.end(), self.stub.base);
                 let below = base.wrapping_sub(2);
                 self.rng.pick(&[0, 130, 132, below, end.wrapping_sub(2), end, u32::MAX - 1, any])
             }
@@ -67,11 +68,11 @@ impl Writer<'_> {
         let low = self.rng.below(12);
         let first = if self.rng.chance(80) { low } else { 244 + low };
         let mut ids = (0..=8).map(|i| (first + i) % 256);
-        ids.find(|&id| self.scene.stub.of_id(id).is_none()).unwrap_or(first)
+        ids.find(|&id| self.stub.of_id(id).is_none()).unwrap_or(first)
     }
 
     /// An id in use, a free one, or one over 255, with these weights.
-    pub fn id(&mut self, weights: [u32; 3]) -> u32 {
+    pub(crate) fn id(&mut self, weights: [u32; 3]) -> u32 {
         let known = self.point().map_or(0, |point| u32::from(point.id));
         match self.rng.weighted(&weights) {
             0 => known,
@@ -84,8 +85,8 @@ impl Writer<'_> {
     }
 
     /// A listed pid that is Stopped, or is not, if there is one.
-    pub fn pid_where(&mut self, stopped: bool) -> Option<u32> {
-        let processes = &self.scene.stub.processes;
+    pub(crate) fn pid_where(&mut self, stopped: bool) -> Option<u32> {
+        let processes = &self.stub.processes;
         let start = self.rng.index(processes.len());
         let order = (0..processes.len()).map(|i| processes[(start + i) % processes.len()]);
         order.into_iter().find(|one| (one.state == STOPPED) == stopped).map(|one| one.pid)
@@ -93,7 +94,7 @@ impl Writer<'_> {
 
     /// Any listed pid, with a share of unlisted ones.
     pub fn pid(&mut self, unlisted: u32) -> u32 {
-        let processes = &self.scene.stub.processes;
+        let processes = &self.stub.processes;
         let pid = processes[self.rng.index(processes.len())].pid;
         if self.rng.chance(unlisted) {
             let any = self.rng.word();
@@ -105,10 +106,10 @@ impl Writer<'_> {
     }
 
     /// An address of the window or beside it, of a register, or of nothing.
-    pub fn address(&mut self) -> u32 {
+    pub(crate) fn address(&mut self) -> u32 {
         match self.rng.weighted(&[42, 10, 12, 16, 10, 5, 5]) {
             0 => self.standing_site().wrapping_sub(3).wrapping_add(self.rng.below(6)),
-            1 => self.scene.stub.base.wrapping_sub(9).wrapping_add(self.rng.below(12)),
+            1 => self.stub.base.wrapping_sub(9).wrapping_add(self.rng.below(12)),
             2 => self.end().wrapping_sub(10).wrapping_add(self.rng.below(12)),
             3 => self.inside(),
             4 => self.rng.pick(&EDGES),
