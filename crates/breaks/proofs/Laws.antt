@@ -10,8 +10,9 @@ use lib.ListN.{length, getD}
 use mir.Val.{Val}
 use denote.Laws.{Is}
 use Rattle.common.proofs.Cases.{on-less, on-same}
-use Rattle.common.proofs.First.{first-within}
+use Rattle.common.proofs.First.{first-map, first-within}
 use Rattle.common.proofs.Tab.{two-of}
+use Rattle.fit.proofs.Slots.{plain-byte, shape-at}
 use Rattle.fit.specs.Arrays.{siteOf, sitesOf}
 use Rattle.fit.specs.Fit.{entryAt}
 use Rattle.fit.specs.declared.Scan.{Scan}
@@ -19,11 +20,10 @@ use Rattle.memory.specs.Head.{house}
 use Rattle.memory.specs.Overlay.{siteOver, slotOf}
 use Rattle.rules.specs.Breakpoint.{sites, isAt, breakpointAt}
 use Rattle.rules.specs.Facts.{Shaped, Good}
-use Rattle.rules.specs.FitFacts.{facts-of}
+use Rattle.rules.specs.FitFacts.{facts-of, two-each}
 use Rattle.rules.specs.Found.{at-used, at-site}
 use Rattle.rules.specs.Ready.{Ready}
-use Rattle.rules.specs.Slots.{TwoEach, site-at, site-used, plain-byte}
-use Rattle.scan.proofs.Laws.{first-map, shape-at}
+use Rattle.rules.specs.Slots.{slot-used}
 use Rattle.target.specs.Free.{isFree}
 use Rattle.target.specs.Fresh.{noEntry}
 use Rattle.target.specs.declared.Entry.{Entry}
@@ -96,17 +96,13 @@ module _ (t : Target) (s : Scan) (k : ℕ) (h : Shaped t) (r : Removable t s k) 
   within : k < length (t .table .entries)
   within = omega (arith, h .entries, r .below)
 
-  -- every entry of a shaped record has two plain bytes
-  two : TwoEach (t .table .entries)
-  two j l = h .entry j (omega (arith, h .entries)) .plain
-
   pub slot-site : getD (s .sites) k 0 ≡ entryAt (t .table .entries) k .site - t .base
-  slot-site = rw (r .traps) (site-at (t .base) (t .table .entries) k within ∙ site-used (t .base) _ (r .used))
+  slot-site = rw (r .traps) (slot-used (t .base) (t .table .entries) k within (r .used))
 
   slot-byte : (i j : ℕ) → j < 2 → i ≡ k * 2 + j → getD (s .plain) i 0 ≡ getD (entryAt (t .table .entries) k .plain) j 0
-  slot-byte i j l e = rw (r .plain, e) (plain-byte (t .table .entries) two k j within l)
+  slot-byte i j l e = rw (r .plain, e) (plain-byte (t .table .entries) (two-each t h) k j within l)
 
   pub slot-plain : getD (s .plain) (2 * k) 0 ∷ getD (s .plain) (2 * k + 1) 0 ∷ [] ≡ entryAt (t .table .entries) k .plain
   slot-plain =
       rw (slot-byte (2 * k) 0 (omega arith) (omega arith), slot-byte (2 * k + 1) 1 (omega arith) (omega arith))
-      (sym (two-of (entryAt (t .table .entries) k .plain) 0 (two k within)))
+      (sym (two-of (entryAt (t .table .entries) k .plain) 0 (two-each t h k within)))

@@ -2,7 +2,7 @@
 use mathlib.Core.Path.{_≡_, sym, ap, _∙_}
 use mathlib.Core.Bool.{Bool, true, false}
 use mathlib.Core.List.{List}
-use Prim.Native.Nat.{ℕ, _+_, _<_, _≤_}
+use Prim.Native.Nat.{ℕ, _+_, _≤_}
 use native.Mathlib.Omega.{arith}
 use borrow.Author.Tests.{eq-eqb, ne-eqb, lt-ltb, le-leb, lt-leb}
 use lib.Dec.{eqb, leb}
@@ -21,11 +21,9 @@ use Rattle.memory.specs.Head.{house}
 use Rattle.rules.specs.Breakpoint.{isAt, breakpointAt}
 use Rattle.rules.specs.Change.{grown}
 use Rattle.rules.specs.Condition.{inHand, joined, addElement, siteFree}
-use Rattle.rules.specs.Facts.{Shaped}
 use Rattle.rules.specs.FitFacts.{parts}
 use Rattle.rules.specs.Outcome.{World}
 use Rattle.rules.specs.Ready.{Ready}
-use Rattle.scan.proofs.Laws.{Small}
 use Rattle.target.specs.declared.Draft.{Draft}
 use Rattle.target.specs.declared.Element.{Element}
 use Rattle.target.specs.declared.Entry.{Entry}
@@ -37,11 +35,6 @@ pub id-found : (t : Target) (s : Scan) (mem regs : List ℕ) (id : ℕ) → Read
     → firstOf (eqb id) (s .ids) ≡ entryOf (t .table .entries) id
 unfolding entryOf
 id-found t s mem regs id r = ap (firstOf (eqb id)) (r .ids)
-
--- ---- the ids of a record's entries are bytes
-
-pub ids-small : (t : Target) → Shaped t → Small (t .table .entries)
-ids-small t h k l = h .entry k (omega (arith, h .entries)) .id
 
 -- no breakpoint is at an address where the search ends
 pub at-end : (es : List Entry) (address : ℕ) → length es ≡ 8 → eqb (breakpointAt es address) 8 ≡ leb (length es) (breakpointAt es address)

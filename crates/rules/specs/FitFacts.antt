@@ -12,6 +12,7 @@ use Rattle.common.proofs.Every.{every-at, every-all}
 pub use Rattle.common.proofs.Same.{parts}
 use Rattle.common.proofs.Same.{and-left, and-right}
 use Rattle.common.proofs.Tab.{pair-at}
+use Rattle.fit.proofs.Slots.{TwoEach, sixteen-plains as plains-sixteen, plain-byte}
 use Rattle.fit.specs.Fit.{fitOf, windowFit, processAt, pidFit, processesFit, entryAt, apart, siteFit, entryFit, slotFit, entriesFit}
 use Rattle.fit.specs.Fit.{marksFit, currentFit, draftFit}
 use Rattle.memory.specs.Head.{Head, trapBytes}
@@ -27,7 +28,7 @@ use Rattle.target.specs.declared.Target.{Target}
 use Rattle.rules.specs.Breakpoint.{sites, plains}
 use Rattle.rules.specs.Facts.{Shaped, Differ, Used, UsedFacts, Facts, Good}
 use Rattle.rules.specs.Slots as slots
-use Rattle.rules.specs.Slots.{TwoEach, length-sites, length-plains, plain-byte}
+use Rattle.rules.specs.Slots.{length-sites}
 
 -- ---- keys that no two have, one before the other, are different
 
@@ -293,7 +294,7 @@ module _ {head : Head} (t : Target) (mem : List ℕ) (g : Good head t mem) where
       f .sitesDiffer j k (h, v) u (omega (arith, slot-used j (h, v), slot-used k u, a .low, b .low)))
 
   pub sixteen-plains : length (plains t) ≡ 16
-  sixteen-plains = omega (arith, length-plains (t .table .entries) (two-each t (g .shaped)), g .shaped .entries)
+  sixteen-plains = plains-sixteen (t .table .entries) (g .shaped .entries) (two-each t (g .shaped))
 
   -- a slot's plain bytes are its entry's
   pub slot-byte : (k r : ℕ) → k < 8 → r < 2 → getD (plains t) (k * 2 + r) 0 ≡ getD (entryAt (t .table .entries) k .plain) r 0

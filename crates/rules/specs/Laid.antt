@@ -7,6 +7,7 @@ use native.Mathlib.Omega.{arith}
 use lib.ListN.{length, getD, set, replicate, length-set}
 use lib.Seq.{getD-set-same, getD-set-other}
 use Rattle.common.proofs.Lists.{at-set}
+use Rattle.fit.proofs.Slots.{plain-byte}
 use Rattle.fit.specs.Arrays.{siteOf, sitesOf, plainsOf}
 use Rattle.fit.specs.Fit.{entryAt}
 use Rattle.memory.specs.Head.{Head, trapBytes}
@@ -32,7 +33,7 @@ use Rattle.rules.specs.Breakpoint.{sites, plains}
 use Rattle.rules.specs.Request.{withPlains}
 use Rattle.rules.specs.Book.{Breakpoint, Book, Setup, intoWindow, inWindow, sitesBy, realBy}
 use Rattle.rules.specs.Facts.{Good, Used}
-use Rattle.rules.specs.Slots.{sites-set, plain-byte, sites-with, plains-with}
+use Rattle.rules.specs.Slots.{sites-set, sites-with, plains-with}
 use Rattle.rules.specs.FitFacts.{planted-of, slot-used, slot-free, slot-only, slot-byte, eight-sites, sixteen-plains}
 use Rattle.rules.specs.Agree.{dressed, Agree}
 use Rattle.rules.specs.Listed.{member-place, place-member}

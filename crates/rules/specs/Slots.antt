@@ -5,12 +5,13 @@ use mathlib.Core.List.{List, [], _∷_, _++_, map}
 use Prim.Native.Nat.{ℕ, zero, suc, _+_, _-_, _*_, _<_}
 use native.Mathlib.Nat.{not-suc-le-zero, le-of-suc-le-suc}
 use native.Mathlib.Omega.{arith}
-use lib.ListN.{length, getD, take, drop, set, length-append, length-drop, length-map, take-append-drop, List·getD-append}
-use lib.Seq.{getD-append-add, drop-drop, take-at, drop-at}
+use lib.ListN.{length, getD, take, drop, set, length-drop, length-map, take-append-drop}
+use lib.Seq.{drop-drop, take-at, drop-at}
 use Rattle.common.specs.First.{firstOf}
 use Rattle.common.proofs.Lists.{map-set}
 use Rattle.common.proofs.Tab.{map-at}
 use Rattle.memory.specs.Overlay.{noSite}
+use Rattle.fit.proofs.Slots.{TwoEach}
 use Rattle.fit.specs.Arrays.{noId, idOf, siteOf, idsOf, sitesOf, plainsOf}
 use Rattle.fit.specs.Fit.{entryAt}
 use Rattle.target.specs.Free.{isFree, firstFree}
@@ -72,32 +73,6 @@ module _ (es : List Entry) where
   pub ids-set : (k : ℕ) (e : Entry) → idsOf (set es k e) ≡ set (idsOf es) k (idOf e)
   unfolding idsOf
   ids-set k e = map-set idOf es k e
-
--- ---- the slots' plain bytes, where every entry has two
-
-abbrev pub TwoEach : List Entry → Type 0
-TwoEach es = (k : ℕ) → k < length es → length (entryAt es k .plain) ≡ 2
-
-pub length-plains : (es : List Entry) → TwoEach es → length (plainsOf es) ≡ length es * 2
-unfolding plainsOf
-length-plains [] two = refl
-length-plains (e ∷ es) two =
-    omega (arith, length-append (e .plain) (plainsOf es), two 0 (omega arith), length-plains es (λ k h. two (suc k) (omega arith)))
-
-pub plain-byte : (es : List Entry) → TwoEach es → (k r : ℕ) → k < length es → r < 2
-    → getD (plainsOf es) (k * 2 + r) 0 ≡ getD (entryAt es k .plain) r 0
-unfolding plainsOf
-plain-byte [] two k r h g = absurd (not-suc-le-zero h)
-plain-byte (e ∷ es) two zero r h g =
-    let z : length (e .plain) ≡ 2 = two 0 (omega arith) in
-    let p : 0 * 2 + r ≡ r = omega arith in
-    ap (λ (n : ℕ). getD (e .plain ++ plainsOf es) n 0) p ∙ List·getD-append (e .plain) (plainsOf es) 0 r (omega arith)
-plain-byte (e ∷ es) two (suc k) r h g =
-    let z : length (e .plain) ≡ 2 = two 0 (omega arith) in
-    let p : suc k * 2 + r ≡ length (e .plain) + (k * 2 + r) = omega arith in
-    ap (λ (n : ℕ). getD (e .plain ++ plainsOf es) n 0) p
-    ∙ getD-append-add (e .plain) (plainsOf es) (k * 2 + r) 0
-    ∙ plain-byte es (λ j l. two (suc j) (omega arith)) k r (le-of-suc-le-suc h) g
 
 -- ---- a table with other plain bytes
 

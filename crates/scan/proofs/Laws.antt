@@ -39,10 +39,7 @@ use Rattle.fit.specs.Fit.{
 }
 use Rattle.fit.specs.declared.Scan.{Scan}
 use Rattle.fit.proofs.Laws.{answered-yes}
-use Rattle.fit.proofs.Slots.{ids-tab, sites-tab, plainByte, plains-tab}
--- as crate breaks names them
-pub use Rattle.common.proofs.First.{first-map}
-pub use Rattle.fit.proofs.Slots.{Small, first-free, shape-at}
+use Rattle.fit.proofs.Slots.{ids-tab, sites-tab, plainByte, plains-tab, Small, first-free, shape-at}
 
 -- ---- slots: the tests of an entry
 

@@ -1,22 +1,21 @@
 -- Laws of setup. Assumes nothing.
-use mathlib.Core.Path.{_≡_, ap, _∙_}
+use mathlib.Core.Path.{_≡_, ap}
 use mathlib.Core.Bool.{true, false, _&&_, and-false}
 use mathlib.Core.List.{List, []}
 use Prim.Native.Nat.{ℕ, _+_, _*_, _<_, _≤_}
 use native.Mathlib.Omega.{arith}
 use borrow.Author.Tests.{lt-ltb, le-ltb}
 use lib.Dec.{eqb}
-use lib.ListN.{length, getD, set, length-set}
-use lib.Seq.{getD-set-same, getD-set-other}
+use lib.ListN.{length, getD, set}
 use Rattle.common.specs.Tab.{tab}
-use Rattle.common.proofs.Cases.{on-less, on-same}
-use Rattle.common.proofs.Tab.{length-tab, tab-at, tab-is, tab-ext}
+use Rattle.common.proofs.Cases.{on-less}
+use Rattle.common.proofs.Tab.{tab-set, tab-ext}
 use Rattle.fit.specs.Fit.{windowFit, processesFit}
 use Rattle.rules.specs.Outcome.{world, outcome, answered}
 use Rattle.rules.specs.Record.{ready}
 use Rattle.rules.specs.Step.{beginning, setupTarget, setupOf}
 use Rattle.rules.specs.declared.Answer.the-variants.{Nothing}
-use Rattle.target.specs.Fresh.{noProcess, emptyTarget}
+use Rattle.target.specs.Fresh.{emptyTarget}
 use Rattle.target.specs.declared.Process.{Process}
 
 module _ (pids addresses : List ℕ) where
@@ -27,16 +26,8 @@ module _ (pids addresses : List ℕ) where
       ≡ tab 4 (beginning pids addresses (i + 1))
   unfolding beginning
   begin-more i h =
-      let old = tab 4 (beginning pids addresses i) in
-      let z : length old ≡ 4 = length-tab 4 (beginning pids addresses i) in
-      tab-is _ 4 _ noProcess (length-set old i _ ∙ z)
-      (λ j l. on-same j i
-      (λ s. rw (s, getD-set-same old i _ noProcess (omega arith), lt-ltb i (i + 1) (omega arith)))
-      (λ s. getD-set-other old i j _ noProcess s ∙ tab-at 4 (beginning pids addresses i) noProcess j l ∙ later j s))
-    where
-      later : (j : ℕ) → (j ≡ i → ⊥) → beginning pids addresses i j ≡ beginning pids addresses (i + 1) j
-      later j s =
-          on-less j i (λ b. rw (lt-ltb j i b, lt-ltb j (i + 1) (omega arith))) (λ b. rw (le-ltb j i b, le-ltb j (i + 1) (omega arith)))
+      tab-set 4 _ _ i _ (rw (lt-ltb i (i + 1) (omega arith)))
+      (λ j l s. on-less j i (λ b. rw (lt-ltb j i b, lt-ltb j (i + 1) (omega arith))) (λ b. rw (le-ltb j i b, le-ltb j (i + 1) (omega arith))))
 
   pub begin-same : (i n : ℕ) → i ≡ n → tab 4 (beginning pids addresses i) ≡ tab 4 (beginning pids addresses n)
   begin-same i n e = ap (λ (k : ℕ). tab 4 (beginning pids addresses k)) e

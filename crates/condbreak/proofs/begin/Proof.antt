@@ -20,9 +20,8 @@ use Rattle.target.specs.Free.{isFree, firstFree}
 use Rattle.target.specs.declared.Target.{Target}
 use Rattle.wire.specs.declared.Message.the-variants.{Rcondbreak}
 use Rattle.text.specs.declared.Reason.the-variants.{Count, Inval}
-use Rattle.scan.proofs.Laws.{first-free}
-use Rattle.condbreak.proofs.Laws.{id-found, ids-small}
-use Rattle.breaks.proofs.Laws.{shaped-of}
+use Rattle.fit.proofs.Slots.{first-free, eight-entries, target-small}
+use Rattle.condbreak.proofs.Laws.{id-found}
 use Rattle.condbreak.proofs.begin.Statement.{statement}
 use Rattle.condbreak.proofs.begin.Tie as tie
 
@@ -62,13 +61,12 @@ found : (f : tie.After-entry-of) → f .entry-of .result ≡ entryOf (start f .a
 found f = let s = start f in f .entry-of .ensures ∙ id-found (s .args .t) _ _ _ (s .args .val) (s .pre)
 
 eight-at : (s : tie.Start) → length (s .args .t .table .entries) ≡ 8
-eight-at s = shaped-of (s .args .t) _ (s .good .0) .entries
+eight-at s = eight-entries (s .args .t) _ (s .good .0)
 
 free : (f : tie.After-entry-of2) → f .entry-of2 .result ≡ firstFree (whole f .args .t .table .entries)
 free f =
     let s = whole f in
-    let h = shaped-of (s .args .t) _ (s .good .0) in
-    f .entry-of2 .ensures ∙ ap (firstOf (eqb 256)) (s .pre .ids) ∙ first-free (s .args .t .table .entries) (ids-small (s .args .t) h)
+    f .entry-of2 .ensures ∙ ap (firstOf (eqb 256)) (s .pre .ids) ∙ first-free (s .args .t .table .entries) (target-small (s .args .t) _ (s .good .0))
 
 fail-requires : tie.Need-fail-requires
 fail-requires c κs = search needs

@@ -12,7 +12,7 @@ use Rattle.rules.specs.Found.{id-is-used}
 use Rattle.rules.specs.Outcome.{replied, error}
 use Rattle.wire.specs.declared.Message.the-variants.{Rcondbreak}
 use Rattle.condbreak.proofs.Laws.{id-found}
-use Rattle.breaks.proofs.Laws.{shaped-of}
+use Rattle.fit.proofs.Slots.{eight-entries}
 use Rattle.condbreak.proofs.delete.Statement.{statement}
 use Rattle.condbreak.proofs.delete.Tie as tie
 
@@ -24,7 +24,7 @@ found : (f : tie.After-entry-of) → f .entry-of .result ≡ entryOf (start f .a
 found f = let s = start f in f .entry-of .ensures ∙ id-found (s .args .t) _ _ _ (s .args .val) (s .pre)
 
 eight : (s : tie.Start) → length (s .args .t .table .entries) ≡ 8
-eight s = shaped-of (s .args .t) _ (s .good .0) .entries
+eight s = eight-entries (s .args .t) _ (s .good .0)
 
 bytes-of-requires : tie.Need-bytes-of-requires
 bytes-of-requires c κs = search needs

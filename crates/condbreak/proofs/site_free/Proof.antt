@@ -3,7 +3,7 @@ use borrow.Author.Needs.{needs}
 use borrow.Author.Tests.{eq-eqb, ne-eqb, le-leb, lt-leb}
 use Rattle.rules.specs.Condition.{siteFree}
 use Rattle.condbreak.proofs.Laws.{at-end}
-use Rattle.breaks.proofs.Laws.{shaped-of}
+use Rattle.fit.proofs.Slots.{eight-entries}
 use Rattle.condbreak.proofs.site_free.Statement.{statement}
 use Rattle.condbreak.proofs.site_free.Tie as tie
 
@@ -43,7 +43,7 @@ returns-4 c =
     let t = b .before .before .before in
     let s = t .before .before .before .before .before in
     rw (eq-eqb _ 0 (t .before .before .if1 .left), le-leb _ _ (t .if2 .left), le-leb _ _ (b .if3 .left), c .breakpoint-at .ensures)
-    (at-end (s .args .t .table .entries) (s .args .val) (shaped-of (s .args .t) _ (s .good .0) .entries))
+    (at-end (s .args .t .table .entries) (s .args .val) (eight-entries (s .args .t) _ (s .good .0)))
 
 pub site-free-spec : {M : Type 1} → statement M
 site-free-spec =
