@@ -25,7 +25,7 @@ use Rattle.wire.specs.declared.Kind.the-variants.{Tmget, Tmput, Tproc, Tstatus,
 use Rattle.wire.specs.declared.Message.{Message}
 use Rattle.wire.specs.declared.Message.the-variants as message
 use Rattle.wire.specs.declared.Reading.the-variants.{Accepted, NoMessage}
-use Rattle.text.specs.declared.Reason.the-variants.{Count, Unk, Inval, Unsup}
+use Rattle.text.specs.declared.Reason.the-variants.{Count, Unk, Unsup}
 use Rattle.request.specs.Request.{served, counted, parsedBy, parseOf}
 use Rattle.request.specs.Unused.{lastWord, taken, aloneOf, getOf, putOf, conditionOf}
 use Rattle.request.specs.declared.Parsed.{Parsed}
