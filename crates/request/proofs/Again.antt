@@ -1,11 +1,11 @@
--- Writing a request again gives the same ten bytes exactly where its unused bytes are zero: one law over the type, the byte after
--- the number and the last four bytes as a number. Assumes nothing.
+-- Writing a request again gives the same ten bytes exactly where its unused bytes are zero: `again`, one law over the type, the
+-- byte after the number and the last four bytes. So the tests of the code decide as the definition does: `answered`. Assumes nothing.
 use mathlib.Core.Path.{_≡_, refl, sym, ap, _∙_}
 use mathlib.Core.Bool.{Bool, true, false, cond, _&&_}
 use mathlib.Core.List.{List, [], _∷_, _++_}
 use Prim.Native.Nat.{ℕ, _^_, _<_}
-use borrow.Author.Tests.{eqb-true, eq-eqb, ne-eqb}
 use native.Mathlib.Omega.{arith}
+use borrow.Author.Tests.{eqb-true, eq-eqb, ne-eqb}
 use lib.Dec.{leb, eqb}
 use lib.ListN.{length, getD}
 use Rattle.common.specs.Bytes.{lowFirst, highFirst, Bytes}
@@ -25,7 +25,7 @@ use Rattle.wire.specs.declared.Kind.the-variants.{Tmget, Tmput, Tproc, Tstatus,
 use Rattle.wire.specs.declared.Message.{Message}
 use Rattle.wire.specs.declared.Message.the-variants as message
 use Rattle.wire.specs.declared.Reading.the-variants.{Accepted, NoMessage}
-use Rattle.text.specs.declared.Reason.the-variants.{Count, Unk, Inval, Unsup}
+use Rattle.text.specs.declared.Reason.the-variants.{Count, Unk, Unsup}
 use Rattle.request.specs.Request.{served, counted, parsedBy, parseOf}
 use Rattle.request.specs.Unused.{lastWord, taken, aloneOf, getOf, putOf, conditionOf}
 use Rattle.request.specs.declared.Parsed.{Parsed}
@@ -119,14 +119,13 @@ module _ (l : List ℕ) (ten : length l ≡ 10) (b : (i : ℕ) → getD l i 0 < 
   -- they are laid so
   whole : laid (getD l 0 0) (firstWord l) (getD l 5 0) (lastWord l) ≡ l
   unfolding firstWord lastWord tab
-  whole =
-      rw (high-bytes _ (four 1 2 3 4), high-bytes _ (four 6 7 8 9)) (sym (tab-sized l 0 10 ten))
+  whole = rw (high-bytes _ (four 1 2 3 4), high-bytes _ (four 6 7 8 9)) (sym (tab-sized l 0 10 ten))
 
   last-fits : lastWord l < 256 ^ 4
   unfolding lastWord
   last-fits = high-fits _ (four 6 7 8 9)
 
-  -- with the same type and number: the same where the byte and the last number are
+  -- laid with their type and number, and another byte and last number: the same bytes where these are the same
   again : (t a w : ℕ) → getD l 0 0 ≡ t → w < 256 ^ 4
       → sameList (laid t (firstWord l) a w) l ≡ (eqb (getD l 5 0) a && eqb (lastWord l) w)
   again t a w e h = same-test _ _ there back
@@ -134,14 +133,16 @@ module _ (l : List ℕ) (ten : length l ≡ 10) (b : (i : ℕ) → getD l i 0 < 
       there : sameList (laid t (firstWord l) a w) l ≡ true → (eqb (getD l 5 0) a && eqb (lastWord l) w) ≡ true
       there s =
           let q = same-eq (laid t (firstWord l) a w) l s in
-          rw (eq-eqb (getD l 5 0) a (sym (ap (λ (x : List ℕ). getD x 5 0) q) ∙ laid-five t (firstWord l) a w), eq-eqb (lastWord l) w (sym (ap lastWord q) ∙ laid-last t (firstWord l) a w h))
+          let five : getD l 5 0 ≡ a = sym (ap (λ (x : List ℕ). getD x 5 0) q) ∙ laid-five t (firstWord l) a w in
+          let last : lastWord l ≡ w = sym (ap lastWord q) ∙ laid-last t (firstWord l) a w h in
+          rw (eq-eqb (getD l 5 0) a five, eq-eqb (lastWord l) w last)
 
       back : (eqb (getD l 5 0) a && eqb (lastWord l) w) ≡ true → sameList (laid t (firstWord l) a w) l ≡ true
       back s =
           let both = and-both (eqb (getD l 5 0) a) (eqb (lastWord l) w) s in
           rw (← e, ← eqb-true (getD l 5 0) a (both .0), ← eqb-true (lastWord l) w (both .1), whole) (same-refl l)
 
-  -- so a request that is laid so is served where they are
+  -- so a message that is laid so is served where they are
   served-by : (k : Kind) (m : Message) (t a w : ℕ) → kindOf (getD l 0 0) ≡ k → getD l 0 0 ≡ t → candidateBy k l ≡ Accepted m
       → bytesOf m ≡ laid t (firstWord l) a w → w < 256 ^ 4
       → served (readOf l) ≡ taken (isMessage m && (eqb (getD l 5 0) a && eqb (lastWord l) w)) m

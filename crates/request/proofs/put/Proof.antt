@@ -28,11 +28,15 @@ is-message-requires c κs = search needs
 
 returns-2 : tie.Need-returns-2
 unfolding putOf taken data4
-returns-2 c = rw (le-leb _ 4 (c .before .before .before .before .before .before .if1 .left), sym (c .before .is-message .ensures) ∙ not-true _ (c .if2 .taken))
+returns-2 c =
+    let q = c .before in
+    rw (le-leb _ 4 (q .before .before .before .before .before .if1 .left), sym (q .is-message .ensures) ∙ not-true _ (c .if2 .taken))
 
 returns-3 : tie.Need-returns-3
 unfolding putOf taken data4
-returns-3 c = rw (le-leb _ 4 (c .before .before .before .before .before .before .if1 .left), sym (c .before .is-message .ensures) ∙ not-false _ (c .if2 .left))
+returns-3 c =
+    let q = c .before in
+    rw (le-leb _ 4 (q .before .before .before .before .before .if1 .left), sym (q .is-message .ensures) ∙ not-false _ (c .if2 .left))
 
 pub put-spec : {M : Type 1} → statement M
 put-spec =
