@@ -1,6 +1,5 @@
 -- Laws of one step: what each kind encodes, and what it shows. Assumes nothing.
 use mathlib.Core.Path.{_≡_, refl, ap, _∙_}
-use mathlib.Core.Bool.{Bool, true, false, cond, _&&_}
 use mathlib.Core.List.{List, [], _++_, append-nil}
 use mathlib.Core.Logic.{_⊎_, inl, inr}
 use Prim.Native.Nat.{ℕ, _-_, _≤_, _<_}
@@ -11,12 +10,10 @@ use lib.ListN.{length, take, drop, getD, replicate}
 use Rattle.common.specs.Keys.{byKeys, among}
 use Rattle.common.proofs.Cases.{on-test, on-same}
 use Rattle.common.proofs.Lists.{part-to-end}
-use Rattle.fit.specs.Fit.{fitOf}
 use Rattle.memory.specs.Head.{house}
-use Rattle.rules.specs.Event.{restart}
-use Rattle.rules.specs.Outcome.{World, world, Outcome, outcome, refused, replied, error}
-use Rattle.rules.specs.Replies.{Handled, accepted, refusing, Checked, held, passed, request-checked, RightReply, replies}
-use Rattle.rules.specs.Step.{sized, checked, requestOf, trapOf, scheduleOf, stateOf, restartOf}
+use Rattle.rules.specs.Outcome.{World, world, Outcome, outcome}
+use Rattle.rules.specs.Replies.{RightReply, replies, request-quiet, restart-quiet}
+use Rattle.rules.specs.Step.{requestOf, trapOf, scheduleOf, stateOf, restartOf}
 use Rattle.rules.specs.Step.{Step, request, trapEvent, scheduleEvent, stateEvent, restartStep, stepOf}
 use Rattle.rules.specs.declared.Answer.{Answer}
 use Rattle.rules.specs.declared.Answer.the-variants.{Nothing, Stop, Pass, Yes, No}
@@ -24,30 +21,6 @@ use Rattle.target.specs.declared.Target.{Target}
 use Rattle.rules.specs.Outcome.{answerBytes}
 use Rattle.trace.specs.Trace.{longest, bodyOf, pidOf, encoded, stepOn, shownWith, shown, Writes, Steps}
 use Rattle.trace.specs.declared.Stepped.{Stepped}
-
--- ---- a request and a restart have no answer
-
-handled-quiet : {w : World} {d : Bool} {o : Outcome} → Handled w d o → o .answer ≡ Nothing
-unfolding error replied
-handled-quiet (accepted m v h g) = refl
-handled-quiet (refusing r) = refl
-
-checked-quiet : {w : World} {d : Bool} {reply : List ℕ} {o : Outcome} → Checked (Handled w d) w reply o → o .answer ≡ Nothing
-unfolding refused
-checked-quiet (held n h) = refl
-checked-quiet (passed p) = handled-quiet p
-
-pub request-quiet : (w : World) (bytes reply : List ℕ) → requestOf house w bytes reply .answer ≡ Nothing
-request-quiet w bytes reply = checked-quiet (request-checked house w bytes reply)
-
-pub restart-quiet : (w : World) (reply : List ℕ) → restartOf house w reply .answer ≡ Nothing
-unfolding restartOf checked refused restart replied
-restart-quiet w reply = go (sized w && eqb (length reply) 10) (fitOf house (w .target) (w .mem))
-  where
-    go : (a b : Bool) → (cond a (cond b (restart w) (refused 3 w reply)) (refused 2 w reply)) .answer ≡ Nothing
-    go false b = refl
-    go true false = refl
-    go true true = refl
 
 -- ---- a step shows eleven bytes at most
 
@@ -74,11 +47,11 @@ short : (t : Target) (mem : List ℕ) (e : Step) → RightReply e (stepOf house 
 unfolding RightReply stepOf
 short t mem (request regs bytes reply) r =
     let w = world t mem regs in
-    ten (requestOf house w bytes reply) (r .ten) (request-quiet w bytes reply)
+    ten (requestOf house w bytes reply) (r .ten) (request-quiet house w bytes reply)
 short t mem (trapEvent regs pid block) r = three (trapOf house (world t mem regs) pid block) (r .none)
 short t mem (scheduleEvent regs pid block) r = three (scheduleOf house (world t mem regs) pid block) (r .none)
 short t mem (stateEvent regs pid value) r = three (stateOf house (world t mem regs) pid value) (r .none)
-short t mem (restartStep regs reply) r = let w = world t mem regs in ten (restartOf house w reply) (r .ten) (restart-quiet w reply)
+short t mem (restartStep regs reply) r = let w = world t mem regs in ten (restartOf house w reply) (r .ten) (restart-quiet house w reply)
 
 pub shown-most : (t : Target) (mem : List ℕ) (e : Step) → length (shown (stepOf house t mem e)) ≤ 11
 unfolding shown shownWith

@@ -5,7 +5,9 @@ use denote.Ref.{now}
 use borrow.Author.Needs.{needs}
 use lib.ListN.{replicate}
 use Rattle.rules.specs.Outcome.{world}
-use Rattle.trace.proofs.Steps.{request-quiet, restart-quiet, is-request, is-restart, steps-reply}
+use Rattle.memory.specs.Head.{house}
+use Rattle.rules.specs.Replies.{request-quiet, restart-quiet}
+use Rattle.trace.proofs.Steps.{is-request, is-restart, steps-reply}
 use Rattle.trace.proofs.step_with_reply.Statement.{statement}
 use Rattle.trace.proofs.step_with_reply.Tie as tie
 
@@ -35,7 +37,7 @@ returns c =
     let a = i .before .before .before .before .before .args in
     let w = world (a .t) (now (a .mem)) (now (a .regs)) in
     let q = is-request w (a .kind) (now (a .body)) (i .if1 .taken) in
-    steps-reply _ _ _ _ _ _ _ _ _ (k .request .ensures ∙ q) (rw q at (request-quiet w (now (a .body)) (replicate 10 0)))
+    steps-reply _ _ _ _ _ _ _ _ _ (k .request .ensures ∙ q) (rw q at (request-quiet house w (now (a .body)) (replicate 10 0)))
     (h .show-reply .ensures)
 
 slice-aggregate-restart : tie.Need-slice-aggregate-restart
@@ -65,7 +67,7 @@ returns-2 c =
     let a = s .args in
     let w = world (a .t) (now (a .mem)) (now (a .regs)) in
     let q = is-restart w (a .kind) (now (a .body)) (⊎-elim (λ e. absurd (i .if1 .left e)) (λ e. e) (s .pre .0)) in
-    steps-reply _ _ _ _ _ _ _ _ _ (k .restart .ensures ∙ q) (rw q at (restart-quiet w (replicate 10 0))) (h .show-reply2 .ensures)
+    steps-reply _ _ _ _ _ _ _ _ _ (k .restart .ensures ∙ q) (rw q at (restart-quiet house w (replicate 10 0))) (h .show-reply2 .ensures)
 
 pub step-with-reply-spec : {M : Type 1} → statement M
 step-with-reply-spec =
