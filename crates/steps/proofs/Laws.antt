@@ -91,14 +91,11 @@ module _ (kind input reply : ℕ) where
     pub lent-restart : Rest kind → reply ≡ 10
     lent-restart n = eqb-true reply 10 (lent-rest n ∙ e)
 
--- the sizes of memory and of the register area, as the code tests them
-abbrev pub sizes : World → Bool
-sizes w = eqb (length (w .mem)) (w .target .size) && eqb (length (w .regs)) (136 * w .target .count)
-
 -- past the tests, the record is fit and its buffers have their sizes
-pub ready-by : (w : World) (b : Bool) → b ≡ sizes w → not b ≡ false
+pub ready-by : (w : World) (b : Bool) → b ≡ sized w → not b ≡ false
     → (s : Scan) → Scanned (fitOf house (w .target) (w .mem)) (w .target .base) (w .target .table .entries) s → not (s .fit) ≡ false
     → Ready house (w .target) s (w .mem) (w .regs)
+unfolding sized
 ready-by w b e h s f g =
     let fit = answered-yes _ _ (f .holds) g in
     let both = answered-yes _ _ e h in
@@ -137,8 +134,8 @@ module _ (kind : ℕ) (w : World) (pid value : ℕ) (input reply : List ℕ) whe
       (λ c. on-test (eqb kind 4) (λ d. rw (a, b, c, d) (leaving-checked w _ reply _)) (λ d. rw (a, b, c, d)))))
 
   -- memory or the register area has another size
-  pub wrong-size : (b : Bool) → b ≡ sizes w → not b ≡ true → refused 2 w reply ≡ stepBy kind w pid value input reply
-  unfolding checked sized
+  pub wrong-size : (b : Bool) → b ≡ sized w → not b ≡ true → refused 2 w reply ≡ stepBy kind w pid value input reply
+  unfolding checked
   wrong-size b e h = rw (← e, not-true b h) at tested
 
   -- another buffer has
@@ -149,10 +146,10 @@ module _ (kind : ℕ) (w : World) (pid value : ℕ) (input reply : List ℕ) whe
 
   module _ (lent : lentRight kind (length input) (length reply) ≡ true) where
     -- the record is not fit
-    pub unfit : (b : Bool) → b ≡ sizes w → not b ≡ false
+    pub unfit : (b : Bool) → b ≡ sized w → not b ≡ false
         → (s : Scan) → Scanned (fitOf house (w .target) (w .mem)) (w .target .base) (w .target .table .entries) s → not (s .fit) ≡ true
         → refused 3 w reply ≡ stepBy kind w pid value input reply
-    unfolding checked sized
+    unfolding checked
     unfit b e h s f g =
         let u : fitOf house (w .target) (w .mem) ≡ false = answered-no _ _ (f .holds) g in
         rw (← e, not-false b h, lent, u) at tested

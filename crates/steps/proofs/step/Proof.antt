@@ -10,6 +10,7 @@ use Rattle.events.proofs.Laws.{refuses}
 use Rattle.rules.specs.Outcome.{world}
 use Rattle.rules.specs.Ready.{Ready}
 use Rattle.steps.specs.Kinds.{lentRight}
+use Rattle.rules.specs.Step.{sized}
 use Rattle.steps.proofs.Laws.{ready-by, lent-request, lent-trap, lent-schedule, lent-restart, wrong-size, wrong-lent, unfit}
 use Rattle.steps.proofs.Laws.{leaves, takes-request, takes-trap, takes-schedule, takes-state, takes-restart}
 use Rattle.steps.proofs.step.Statement.{statement}
@@ -20,17 +21,18 @@ abbrev start : tie.After-sizes-right → tie.Start
 start z = z .before .before .before .before .before
 
 -- and where they are found right, from where the record is
-abbrev sized : tie.After-struct-known → tie.Else1
-sized k = k .before .before .before .before .before
+abbrev right-sized : tie.After-struct-known → tie.Else1
+right-sized k = k .before .before .before .before .before
 
 lent : (k : tie.After-struct-known)
-    → let a = start (sized k .before) .args in lentRight (a .kind) (length (now (a .input))) (length (now (a .reply))) ≡ true
+    → let a = start (right-sized k .before) .args in lentRight (a .kind) (length (now (a .input))) (length (now (a .reply))) ≡ true
 lent k = let l = k .before .before .before in answered-yes _ _ (l .before .lent-right .ensures) (l .if2 .left)
 
 ready : (q : tie.Else3)
-    → let a = start (sized (q .before) .before) .args in Ready house (a .t) (q .before .before .check .result) (now (a .mem)) (now (a .regs))
+    → let a = start (right-sized (q .before) .before) .args in Ready house (a .t) (q .before .before .check .result) (now (a .mem)) (now (a .regs))
+unfolding sized
 ready q =
-    let z = sized (q .before) in
+    let z = right-sized (q .before) in
     let a = start (z .before) .args in
     ready-by (world (a .t) (now (a .mem)) (now (a .regs))) _ (z .before .sizes-right .ensures) (z .if1 .left) _
     (q .before .before .check .ensures) (q .if3 .left)
@@ -42,6 +44,7 @@ keeping-requires : tie.Need-keeping-requires
 keeping-requires c κs = search needs
 
 returns : tie.Need-returns
+unfolding sized
 returns c =
     let z = c .before in
     refuses _ _ _ 2 (c .keeping .ensures) ∙ wrong-size _ _ _ _ _ _ _ (z .before .sizes-right .ensures) (z .if1 .taken)
@@ -67,9 +70,10 @@ same-length : tie.Need-same-length
 same-length c = search needs
 
 returns-3 : tie.Need-returns-3
+unfolding sized
 returns-3 c =
     let k = c .before .before in
-    let z = sized k in
+    let z = right-sized k in
     refuses _ _ _ 3 (c .keeping3 .ensures)
     ∙ unfit _ _ _ _ _ _ (lent k) _ (z .before .sizes-right .ensures) (z .if1 .left) _ (k .before .check .ensures) (c .before .if3 .taken)
 
