@@ -79,8 +79,10 @@ check examples_equal diff "$logs/kernel_c.txt" "$logs/kernel_rust.txt"
 check wrapper tests_of sanirvoq
 check reference tests_of reference
 check steps tests_of steps
+check show_session python3 tests/show_session_test.py
+[ ! -x target/bin/program_main ] || check protocol_examples python3 tests/protocol_examples.py
 [ ! -f tests/wire_vectors.py ] || check wire_vectors python3 tests/wire_vectors.py --check
-[ ! -f tests/stub_vectors.py ] || check stub_vectors python3 tests/stub_vectors.py --check
+[ ! -f tests/program_vectors.py ] || check program_vectors python3 tests/program_vectors.py --check
 if [ -f rust/compare/Cargo.toml ]; then
     check compare_tests tests_of compare
     check compare crate run compare -- --seed 1 --steps 300000

@@ -39,12 +39,12 @@ use denote.Exit.{yes}
 use Rattle.target.specs.declared.Target.{Target}
 use Rattle.target.proofs.Target as T
 use Rattle.target.proofs.Target.Laws as T′
-use Rattle.results.specs.declared.Whole.{Whole}
-use Rattle.results.proofs.Whole as D
-use Rattle.results.proofs.Whole.Laws as D′
-use Rattle.results.proofs.setup as inner
-use Rattle.lent.proofs.Lent.{slice, record-ref, record-slot, bytes, kept, given, goes-bytes, goes-read, goes-u8, goes-u32}
-use Rattle.lent.proofs.Stores.{mach}
+use Rattle.capi_results.specs.declared.Whole.{Whole}
+use Rattle.capi_results.proofs.Whole as D
+use Rattle.capi_results.proofs.Whole.Laws as D′
+use Rattle.capi_results.proofs.setup as inner
+use Rattle.capi_lent.proofs.Lent.{slice, record-ref, record-slot, bytes, kept, given, goes-bytes, goes-read, goes-u8, goes-u32}
+use Rattle.capi_lent.proofs.Stores.{mach}
 use Rattle.capi.proofs.PassOn.{OneKind, passed}
 use Rattle.capi.proofs.sanirvoq_step_setup as f
 

@@ -1,17 +1,18 @@
 // The steps for kernels in C and Rust, over a record that the caller owns. include/sanirvoq.h is the same for C.
 //
 // Every exported step has one form: the record, the memory, the register area, a pid, a byte, an input and a reply. What a step does
-// not use it leaves as it is. A setup gives back a whole record, which is stored. All other steps go through one function, `lent::step`.
-use fields::Fields;
-use fields::Found;
+// not use it leaves as it is. A setup gives back a whole record, which is stored. All other steps go through one function, `capi_lent::step`.
+use wire_fields::Fields;
+use wire_fields::Found;
+use step::StepKind;
 use target::Target;
 ghost use mathlib.Core.Path.{_≡_};
-ghost use Rattle.fields.specs.Fields.{writeFields, foundBy};
+ghost use Rattle.wire_fields.specs.Fields.{writeFields, foundBy};
 ghost use Rattle.memory.specs.Head.{house};
-ghost use Rattle.results.specs.Seen.{seen, seenOf, setupFrom};
+ghost use Rattle.capi_results.specs.Seen.{seen, seenOf, setupFrom};
 ghost use Rattle.rules.specs.Outcome.{world};
 ghost use Rattle.rules.specs.Step.{requestOf, trapOf, scheduleOf, stateOf, restartOf};
-ghost use Rattle.steps.specs.Kinds.{leaving};
+ghost use Rattle.step.specs.Kinds.{leaving};
 ghost use Rattle.wire.specs.Codec.{written, readOf};
 
 #[no_mangle]
@@ -26,7 +27,7 @@ pub extern "C" fn sanirvoq_step_setup(
 ) -> u32
     ensures { λ r. ⌜ seen r (now (t .exit)) (now (mem .exit)) (now (regs .exit)) (now (reply .exit)) ≡ seenOf (leaving (now (reply .entry)) (setupFrom (world (now (t .entry)) (now (mem .entry)) (now (regs .entry))))) ⌝ }
 {
-    let d = results::setup(*t, mem, regs, pid, value, input, reply);
+    let d = capi_results::setup(*t, mem, regs, pid, value, input, reply);
     *t = d.target;
     d.result
 }
@@ -44,7 +45,7 @@ pub extern "C" fn sanirvoq_step_request(
 ) -> u32
     ensures { λ r. ⌜ seen r (now (t .exit)) (now (mem .exit)) (now (regs .exit)) (now (reply .exit)) ≡ seenOf (requestOf house (world (now (t .entry)) (now (mem .entry)) (now (regs .entry))) (now (input .entry)) (now (reply .entry))) ⌝ }
 {
-    lent::step(t, 1, mem, regs, pid, value, input, reply)
+    capi_lent::step(t, StepKind::Request, mem, regs, pid, value, input, reply)
 }
 
 // A process ran into a trap: pid, and its block as input.
@@ -60,7 +61,7 @@ pub extern "C" fn sanirvoq_step_trap(
 ) -> u32
     ensures { λ r. ⌜ seen r (now (t .exit)) (now (mem .exit)) (now (regs .exit)) (now (reply .exit)) ≡ seenOf (leaving (now (reply .entry)) (trapOf house (world (now (t .entry)) (now (mem .entry)) (now (regs .entry))) pid (now (input .entry)))) ⌝ }
 {
-    lent::step(t, 2, mem, regs, pid, value, input, reply)
+    capi_lent::step(t, StepKind::Trap, mem, regs, pid, value, input, reply)
 }
 
 // The kernel is about to run a process: pid, and its block as input.
@@ -76,7 +77,7 @@ pub extern "C" fn sanirvoq_step_schedule(
 ) -> u32
     ensures { λ r. ⌜ seen r (now (t .exit)) (now (mem .exit)) (now (regs .exit)) (now (reply .exit)) ≡ seenOf (leaving (now (reply .entry)) (scheduleOf house (world (now (t .entry)) (now (mem .entry)) (now (regs .entry))) pid (now (input .entry)))) ⌝ }
 {
-    lent::step(t, 3, mem, regs, pid, value, input, reply)
+    capi_lent::step(t, StepKind::Schedule, mem, regs, pid, value, input, reply)
 }
 
 // A process gets another state: pid and value.
@@ -92,7 +93,7 @@ pub extern "C" fn sanirvoq_step_state(
 ) -> u32
     ensures { λ r. ⌜ seen r (now (t .exit)) (now (mem .exit)) (now (regs .exit)) (now (reply .exit)) ≡ seenOf (leaving (now (reply .entry)) (stateOf house (world (now (t .entry)) (now (mem .entry)) (now (regs .entry))) pid value)) ⌝ }
 {
-    lent::step(t, 4, mem, regs, pid, value, input, reply)
+    capi_lent::step(t, StepKind::State, mem, regs, pid, value, input, reply)
 }
 
 // The debug session begins anew, answered in reply.
@@ -108,7 +109,7 @@ pub extern "C" fn sanirvoq_step_restart(
 ) -> u32
     ensures { λ r. ⌜ seen r (now (t .exit)) (now (mem .exit)) (now (regs .exit)) (now (reply .exit)) ≡ seenOf (restartOf house (world (now (t .entry)) (now (mem .entry)) (now (regs .entry))) (now (reply .entry))) ⌝ }
 {
-    lent::step(t, 5, mem, regs, pid, value, input, reply)
+    capi_lent::step(t, StepKind::Restart, mem, regs, pid, value, input, reply)
 }
 
 // Writes a message's ten bytes.
@@ -116,7 +117,7 @@ pub extern "C" fn sanirvoq_step_restart(
 pub extern "C" fn sanirvoq_write(message: Fields, buffer: &mut [u8]) -> u8
     ensures { λ r. ⌜ written r (now (buffer .exit)) ≡ writeFields message (now (buffer .entry)) ⌝ }
 {
-    fields::write(message, buffer)
+    wire_fields::write(message, buffer)
 }
 
 // Reads the message of ten bytes.
@@ -124,5 +125,5 @@ pub extern "C" fn sanirvoq_write(message: Fields, buffer: &mut [u8]) -> u8
 pub extern "C" fn sanirvoq_read(bytes: &[u8]) -> Found
     ensures { λ r. ⌜ r ≡ foundBy (readOf (now (bytes .entry))) ⌝ }
 {
-    fields::read(bytes)
+    wire_fields::read(bytes)
 }

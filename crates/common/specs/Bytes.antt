@@ -3,6 +3,7 @@ use Prim.Native.Nat.{ℕ, zero, suc, _+_, _*_, _/_, _%_, _<_}
 use lib.Dec.{ltb}
 use mathlib.Core.Bool.{Bool, true, _&&_}
 use mathlib.Core.List.{List, [], _∷_, reverse}
+use lib.ListN.{getD}
 
 -- the k low bytes of n, low-order first
 unfoldable pub lowFirst : ℕ → ℕ → List ℕ
@@ -21,6 +22,10 @@ highFirst k n = reverse (lowFirst k n)
 -- the number of which these are the bytes, high-order first
 unfoldable pub ofHighFirst : List ℕ → ℕ
 ofHighFirst bs = ofLowFirst (reverse bs)
+
+-- the number of the four bytes at an index, high-order first
+unfoldable pub wordAt : List ℕ → ℕ → ℕ
+wordAt l i = ofHighFirst (getD l i 0 ∷ getD l (i + 1) 0 ∷ getD l (i + 2) 0 ∷ getD l (i + 3) 0 ∷ [])
 
 -- every element is a byte
 unfoldable pub Bytes : List ℕ → Type 0

@@ -1,11 +1,29 @@
-// Small functions that several crates use. Most of this crate is its definitions (specs/) and laws (proofs/).
+// Small functions that several crates use, and the numbers of document 01. Most of this crate is its definitions (specs/) and
+// laws (proofs/).
 ghost use mathlib.Core.Path.{_≡_};
 ghost use mathlib.Core.List.{_∷_, []};
-ghost use Prim.Native.Nat.{_<_, min};
+ghost use Prim.Native.Nat.{_+_, _<_, _≤_, min};
 ghost use lib.ListN.{length};
 ghost use lib.Seq.{paste};
-ghost use Rattle.common.specs.Bytes.{ofHighFirst};
+ghost use Rattle.common.specs.Bytes.{ofHighFirst, wordAt};
 ghost use Rattle.common.specs.Same.{sameList, allZero};
+
+// The numbers of document 01's table (specs/Numbers).
+pub const ACCEPTED: u8 = 0;
+
+pub const BROKEN_SETUP: u8 = 1;
+
+pub const WRONG_SIZE: u8 = 2;
+
+pub const NOT_FIT: u8 = 3;
+
+pub const UNLISTED_PID: u8 = 4;
+
+pub const STOPPED_PROCESS: u8 = 5;
+
+pub const NO_SITE: u8 = 6;
+
+pub const NO_MESSAGE: u8 = 7;
 
 // A byte in four. Its contract carries the bound that a product needs.
 fn wide(x: u8) -> u32
@@ -19,6 +37,14 @@ pub fn word(a: u8, b: u8, c: u8, d: u8) -> u32
     ensures { λ r. ⌜ r ≡ ofHighFirst (a ∷ b ∷ c ∷ d ∷ []) ⌝ }
 {
     wide(a) * 16777216 + wide(b) * 65536 + wide(c) * 256 + wide(d)
+}
+
+// The number of the four bytes at an index, high-order first: the one reader of such numbers.
+pub fn word_at(s: &[u8], at: usize) -> u32
+    requires { ⌜ at + 4 ≤ length (now s) ⌝ }
+    ensures { λ r. ⌜ r ≡ wordAt (now (s .entry)) at ⌝ }
+{
+    word(s[at], s[at + 1], s[at + 2], s[at + 3])
 }
 
 // Whether two slices hold the same bytes.

@@ -3,6 +3,7 @@ use Prim.Native.Nat.{ℕ, _+_}
 use mathlib.Core.Bool.{cond}
 use lib.Dec.{leb, eqb}
 use lib.ListN.{set}
+use Rattle.target.specs.Limits.{maxElements}
 use Rattle.target.specs.declared.Element.{Element}
 use Rattle.target.specs.declared.Draft.{Draft}
 use Rattle.condition.specs.Depth.{depthOf, depthAfter}
@@ -12,7 +13,7 @@ use Rattle.condition.specs.declared.Added.{Added}
 
 unfoldable pub roomFor : Draft → Element → Room
 roomFor d e =
-    cond (leb 16 (d .count)) Full
+    cond (leb maxElements (d .count)) Full
     (cond (eqb (depthAfter (depthOf (d .elements) (d .count)) (e .letter) (e .value)) 0) Short Fits)
 
 -- the element after the others

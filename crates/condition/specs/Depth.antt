@@ -6,6 +6,7 @@ use lib.Dec.{leb, ltb, eqb}
 use lib.ListN.{take}
 use Rattle.common.specs.Keys.{arm, byKeys}
 use Rattle.common.specs.Text.{codes}
+use Rattle.target.specs.Limits.{maxElements}
 use Rattle.target.specs.declared.Element.{Element}
 
 -- the depth after an element, from the depth d before it; 0 where values are lacking or it is no element:
@@ -25,7 +26,7 @@ depthFrom d (e ∷ es) = depthFrom (depthAfter d (e .letter) (e .value)) es
 
 -- the depth after the first count elements: "The stack begins with one value .., so depth starts at 1"; 0 where there are over 16
 unfoldable pub depthOf : List Element → ℕ → ℕ
-depthOf es count = cond (leb count 16) (depthFrom 1 (take count es)) 0
+depthOf es count = cond (leb count maxElements) (depthFrom 1 (take count es)) 0
 
 -- a condition that elements may still join
 unfoldable pub wellBegun : List Element → ℕ → Bool

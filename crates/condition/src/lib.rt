@@ -1,6 +1,8 @@
 // Conditions in Reverse Polish: their depth, an element more, and their truth over plain memory.
 use target::Draft;
 use target::Element;
+use target::Entry;
+use target::Table;
 ghost use mathlib.Core.Path.{_≡_};
 ghost use mathlib.Core.List.{List};
 ghost use Prim.Native.Nat.{ℕ, _+_, _<_, _≤_};
@@ -10,6 +12,10 @@ ghost use Rattle.condition.specs.Add.{addOf};
 ghost use Rattle.condition.specs.Evaluate.{flag as flagOf, top, rest, joinOf, evaluateOf, fetchOf};
 ghost use Rattle.condition.specs.Stack.{valueOf, leftBy};
 ghost use Rattle.memory.specs.Head.{house};
+ghost use Rattle.target.specs.Limits.{maxElements};
+
+// The values that the stack can hold: the one that it begins with, and one for each element.
+const VALUES: usize = 17;
 
 // Whether a condition takes one element more.
 pub enum Room {
@@ -32,7 +38,7 @@ pub enum Fetched {
 
 // The depth after an element; 0 where values are lacking or it is no element.
 fn depth_after(d: u32, letter: u8, value: u32) -> u32
-    requires { ⌜ d ≤ 16 ⌝ }
+    requires { ⌜ d ≤ maxElements ⌝ }
     ensures { λ r. ⌜ (r ≡ depthAfter d letter value) × (r ≤ d + 1) ⌝ }
 {
     if d == 0 {
@@ -47,13 +53,13 @@ fn depth_after(d: u32, letter: u8, value: u32) -> u32
 }
 
 // The depth after the first `count` elements; 0 where they are no beginning of a condition.
-pub fn depth_of(elements: [Element; 16], count: u32) -> u32
+pub fn depth_of(elements: [Element; Entry::ELEMENTS], count: u32) -> u32
     ensures { λ r. ⌜ (r ≡ depthOf elements count) × (r ≤ 17) ⌝ }
 {
-    if 16 < count {
+    let n = count as usize;
+    if Entry::ELEMENTS < n {
         return 0;
     }
-    let n = count as usize;
     let mut d: u32 = 1;
     let mut i: usize = 0;
     while i < n {
@@ -69,7 +75,8 @@ pub fn add(d: Draft, e: Element) -> Added
     ensures { λ r. ⌜ r ≡ addOf d e ⌝ }
 {
     let count = d.count;
-    if 16 <= count {
+    let i = count as usize;
+    if Entry::ELEMENTS <= i {
         return Added {
             room: Room::Full,
             draft: d,
@@ -85,7 +92,6 @@ pub fn add(d: Draft, e: Element) -> Added
         };
     }
     let mut more = d;
-    let i = count as usize;
     more.elements[i] = e;
     more.count = count + 1;
     Added {
@@ -114,7 +120,7 @@ fn join(letter: u8, x: u32, y: u32) -> u32
 }
 
 // The plain word at an address, low-order first.
-pub fn fetch(mem: &[u8], base: u32, sites: &[u32; 8], plain: &[u8; 16], a: u32) -> Fetched
+pub fn fetch(mem: &[u8], base: u32, sites: &[u32; Table::ENTRIES], plain: &[u8; Table::PLAIN], a: u32) -> Fetched
     ensures { λ r. ⌜ r ≡ fetchOf house (now (sites .entry)) (now (plain .entry)) (now (mem .entry)) base a ⌝ }
 {
     if a < base {
@@ -135,14 +141,17 @@ pub fn fetch(mem: &[u8], base: u32, sites: &[u32; 8], plain: &[u8; 16], a: u32) 
 fn value_of(
     mem: &[u8],
     base: u32,
-    sites: &[u32; 8],
-    plain: &[u8; 16],
+    sites: &[u32; Table::ENTRIES],
+    plain: &[u8; Table::PLAIN],
     pid: u32,
     e: Element,
     x: u32,
     y: u32,
 ) -> Fetched
-    ensures { λ r. ⌜ r ≡ valueOf (fetchOf house (now (sites .entry)) (now (plain .entry)) (now (mem .entry)) base) pid (e .letter) (e .value) x y ⌝ }
+    ensures {
+        λ r. ⌜ r ≡ valueOf (fetchOf house (now (sites .entry)) (now (plain .entry)) (now (mem .entry)) base) pid
+        (e .letter) (e .value) x y ⌝
+    }
 {
     let letter = e.letter;
     match letter {
@@ -154,7 +163,7 @@ fn value_of(
 }
 
 // The stack grows down in its cells: its values are those from `at` on, the top first.
-fn top_at(cells: &[u32; 17], at: usize) -> u32
+fn top_at(cells: &[u32; VALUES], at: usize) -> u32
     ensures { λ r. ⌜ r ≡ top (drop at (now (cells .entry))) ⌝ }
 {
     let all = &cells[..];
@@ -164,15 +173,21 @@ fn top_at(cells: &[u32; 17], at: usize) -> u32
 // Where the stack begins without its top.
 fn below(at: usize) -> usize
     requires { ⌜ at ≤ 17 ⌝ }
-    ensures { λ r. ⌜ (at ≤ r) × (1 ≤ r) × (r ≤ 17) × ((cells : List ℕ) → length cells ≡ 17 → drop r cells ≡ rest (drop at cells)) ⌝ }
+    ensures {
+        λ r. ⌜ (at ≤ r) × (1 ≤ r) × (r ≤ 17)
+        × ((cells : List ℕ) → length cells ≡ 17 → drop r cells ≡ rest (drop at cells)) ⌝
+    }
 {
-    if at < 17 { at + 1 } else { at }
+    if at < VALUES { at + 1 } else { at }
 }
 
 // Where it begins without the values that an element takes.
-fn without(letter: u8, at: usize) -> usize
+fn stack_without(letter: u8, at: usize) -> usize
     requires { ⌜ (1 ≤ at) × (at ≤ 17) ⌝ }
-    ensures { λ r. ⌜ (at ≤ r) × (r ≤ 17) × ((cells : List ℕ) → length cells ≡ 17 → drop r cells ≡ leftBy letter (drop at cells)) ⌝ }
+    ensures {
+        λ r. ⌜ (at ≤ r) × (r ≤ 17)
+        × ((cells : List ℕ) → length cells ≡ 17 → drop r cells ≡ leftBy letter (drop at cells)) ⌝
+    }
 {
     match letter {
         b'k' => at,
@@ -187,18 +202,21 @@ fn without(letter: u8, at: usize) -> usize
 pub fn evaluate(
     mem: &[u8],
     base: u32,
-    sites: &[u32; 8],
-    plain: &[u8; 16],
+    sites: &[u32; Table::ENTRIES],
+    plain: &[u8; Table::PLAIN],
     pid: u32,
-    elements: [Element; 16],
+    elements: [Element; Entry::ELEMENTS],
     count: u32,
 ) -> bool
-    requires { ⌜ count ≤ 16 ⌝ }
-    ensures { λ r. ⌜ r ≡ evaluateOf (fetchOf house (now (sites .entry)) (now (plain .entry)) (now (mem .entry)) base) pid elements count ⌝ }
+    requires { ⌜ count ≤ maxElements ⌝ }
+    ensures {
+        λ r. ⌜ r ≡ evaluateOf (fetchOf house (now (sites .entry)) (now (plain .entry)) (now (mem .entry)) base) pid
+        elements count ⌝
+    }
 {
     let n = count as usize;
-    let mut cells: [u32; 17] = [1; 17];
-    let mut at: usize = 16;
+    let mut cells: [u32; VALUES] = [1; VALUES];
+    let mut at: usize = Entry::ELEMENTS;
     let mut i: usize = 0;
     while i < n {
         let e = elements[i];
@@ -208,7 +226,7 @@ pub fn evaluate(
         let Fetched::Word(w) = found else {
             return true;
         };
-        at = without(e.letter, at) - 1;
+        at = stack_without(e.letter, at) - 1;
         cells[at] = w;
         i += 1;
     }

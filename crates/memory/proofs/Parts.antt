@@ -3,26 +3,24 @@ use mathlib.Core.Path.{_≡_, refl, sym, _∙_}
 use mathlib.Core.Bool.{Bool, true, false, cond, _&&_}
 use mathlib.Core.List.{List, _++_}
 use Prim.Native.Nat.{ℕ, _+_, _-_, _<_, _≤_, min}
-use native.Mathlib.Nat.{add-sub-cancel-left, mod-lt}
+use native.Mathlib.Nat.{zero-add}
 use native.Mathlib.Omega.{arith}
-use borrow.Author.Tests.{leb-true}
-use lib.Dec.{leb}
-use lib.ListN.{length, getD, take, drop, replicate, length-drop, length-take, length-append, List·getD-append}
-use lib.Seq.{paste, getD-take, getD-drop, getD-append-add, length-take-le}
+use borrow.Author.Tests.{leb-true, lt-ltb, le-ltb}
+use lib.Dec.{leb, ltb}
+use lib.ListN.{length, getD, take, drop, replicate, length-drop, length-take, length-append, length-replicate}
+use lib.ListN.{getD-replicate, List·getD-append}
+use lib.Seq.{paste, length-paste, getD-take, getD-drop, getD-append-add, length-take-le}
 use Rattle.common.proofs.Cases.{on-less}
 use Rattle.common.proofs.Fill.{fill-ext}
 use Rattle.common.proofs.Lists.{copy-whole, part-at}
 use Rattle.common.proofs.Same.{and-both}
-use Rattle.common.proofs.Tab.{tab-is, tab-ext}
-use Rattle.memory.specs.Overlay.{noSite, covered, plainAt}
+use Rattle.common.proofs.Tab.{tab-is}
+use Rattle.memory.specs.Overlay.{plainAt}
 use Rattle.memory.specs.Place.{placeOf, stretchOf}
 use Rattle.memory.specs.declared.Place.{Place}
 use Rattle.memory.specs.declared.Place.the-variants.{Registers, Window, Nowhere}
-use Rattle.memory.specs.Write.{bytesAt, readOf, partRead, writtenAt, overwritten}
-use Rattle.memory.proofs.Site.{site-place}
-use Rattle.memory.proofs.Slots.{bare-by, none-covered, free-slots}
-use Rattle.memory.proofs.Bytes.{byteOver, byte-bare, written-in, written-before, written-after}
-use Rattle.memory.proofs.Laws.{place-registers}
+use Rattle.memory.specs.Write.{bytesAt, plainRead, partRead, writtenAt, overwritten}
+use Rattle.memory.proofs.Bytes.{byteOver, written-in, written-before, written-after}
 
 -- ---- where the bytes lie
 
@@ -55,53 +53,63 @@ module _ (base size a n : ℕ) where
 abbrev pub partAt : ℕ → List ℕ → List ℕ → List ℕ → ℕ → ℕ → ℕ
 partAt w sites plain part at j = byteOver w sites plain (at + j) (getD part j 0)
 
--- past every site no trap stands, so one offset there reads as any other
-module _ (w : ℕ) (pos : 0 < w) (sites : List ℕ) (end : ℕ) (small : (k : ℕ) → getD sites k 0 < end) where
-  past-sites : (i : ℕ) → end + w ≤ i + 1 → covered w sites i ≡ false
-  past-sites i h = bare-by w sites i (λ j l e. omega (arith, small j, site-place w i, mod-lt i pos))
-
-  pub part-past : (plain part : List ℕ) (at to m : ℕ) → end + w ≤ at + 1 → end + w ≤ to + 1
-      → partRead w sites plain part at m ≡ partRead w sites plain part to m
-  unfolding partRead
-  part-past plain part at to m h g =
-      tab-ext m _ _ (λ j l. rw (past-sites (at + j) (omega arith), past-sites (to + j) (omega arith)))
-
 -- of a part of the window it is the plain byte
 part-window : (w : ℕ) (sites plain mem : List ℕ) (at n m : ℕ) → at + n ≤ length mem
-    → partRead w sites plain (take n (drop at mem)) at m ≡ readOf w sites plain mem at n m
-unfolding partRead readOf plainAt
+    → partRead w sites plain (take n (drop at mem)) at m ≡ plainRead w sites plain mem at n m
+unfolding partRead plainRead plainAt
 part-window w sites plain mem at n m h =
     rw (length-take-le n (drop at mem) (simp length-drop (omega arith)))
     (fill-ext (partAt w sites plain (take n (drop at mem)) at) (λ _. 0) n m (λ j. plainAt w sites plain mem (at + j))
     (λ j l. rw (part-at mem at n j 0 l)))
 
--- of a part of a block it is the register area's byte
-part-block : (plain regs : List ℕ) (from a n : ℕ) → a + n ≤ 136 → from + 136 ≤ length regs
-    → partRead 2 (replicate 8 noSite) plain (take n (drop a (take 136 (drop from regs)))) 0 9 ≡ bytesAt regs (from + a) n 9
-unfolding partRead bytesAt
-part-block plain regs from a n h g =
+-- a part of a block has the register area's bytes
+pub part-bytes : (regs : List ℕ) (from a n m : ℕ) → a + n ≤ 136 → from + 136 ≤ length regs
+    → let part = take n (drop a (take 136 (drop from regs))) in bytesAt part 0 (length part) m ≡ bytesAt regs (from + a) n m
+unfolding bytesAt
+part-bytes regs from a n m h g =
     rw (length-take-le n (drop a block) (simp (length-drop, length-take) (omega arith)))
-    (fill-ext (partAt 2 (replicate 8 noSite) plain (take n (drop a block)) 0) (λ _. 0) n 9 (λ j. getD regs (from + a + j) 0)
+    (fill-ext (λ j. getD (take n (drop a block)) (0 + j) 0) (λ _. 0) n m (λ j. getD regs (from + a + j) 0)
     (λ j l.
     let z : from + (a + j) ≡ from + a + j = omega arith in
-    byte-bare 2 (replicate 8 noSite) plain (0 + j) _ (none-covered 2 (replicate 8 noSite) (free-slots 2 (omega arith) 8) (0 + j))
-    ∙ part-at block a n j 0 l ∙ part-at regs from 136 (a + j) 0 (omega arith) ∙ rw z))
+    rw (zero-add j) (part-at block a n j 0 l ∙ part-at regs from 136 (a + j) 0 (omega arith) ∙ rw z)))
   where
     block : List ℕ
     block = take 136 (drop from regs)
 
+-- a part copied to the front of zeros: its bytes, then zeros
+pub copied-zeros : (part : List ℕ) (m : ℕ) → paste (replicate m 0) 0 part (min m (length part)) ≡ bytesAt part 0 (length part) m
+unfolding bytesAt
+copied-zeros part m =
+    tab-is (paste (replicate m 0) 0 part k) m _ 0
+    (length-paste (replicate m 0) 0 part k (omega (arith, zeros)) (omega arith) ∙ zeros) byte
+  where
+    k : ℕ
+    k = min m (length part)
+
+    zeros : length (replicate {A = ℕ} m 0) ≡ m
+    zeros = length-replicate {A = ℕ} m 0
+
+    front : length (take k part) ≡ k
+    front = length-take-le k part (omega arith)
+
+    byte : (j : ℕ) → j < m → getD (paste (replicate m 0) 0 part k) j 0 ≡ cond (ltb j (length part)) (getD part (0 + j) 0) 0
+    byte j g =
+        on-less j (length part)
+        (λ l.
+        let e : j < k = omega arith in
+        rw (lt-ltb j (length part) l, zero-add j) (List·getD-append (take k part) _ 0 j (rw front e) ∙ getD-take k part j 0 e))
+        (λ l.
+        let q : length (take k part) + (j - k) ≡ j = omega (arith, front) in
+        let e : 0 + k + (j - k) ≡ j = omega arith in
+        rw (le-ltb j (length part) l)
+        ((rw q at (getD-append-add (take k part) (drop (0 + k) (replicate m 0)) (j - k) 0))
+        ∙ getD-drop (0 + k) (replicate m 0) (j - k) 0 ∙ rw e (getD-replicate m j 0 0 g)))
+
 -- what is read of the stretch that an address names
 module _ (mem : List ℕ) (base a n : ℕ) (part : List ℕ) where
-  pub read-block : (plain regs : List ℕ) (from : ℕ) → a + n ≤ 136 → from + 136 ≤ length regs
-      → part ≡ stretchOf (placeOf base (length mem) a n) (take (from + 136 - from) (drop from regs)) mem base a n
-      → partRead 2 (replicate 8 noSite) plain part 0 9 ≡ bytesAt regs (from + a) n 9
-  unfolding stretchOf
-  read-block plain regs from h g f =
-      rw (f, place-registers base (length mem) a n h, add-sub-cancel-left from 136) (part-block plain regs from a n h g)
-
   pub read-window : (sites plain block : List ℕ) → placeOf base (length mem) a n ≡ Window
       → part ≡ stretchOf (placeOf base (length mem) a n) block mem base a n
-      → partRead 2 sites plain part (a - base) 9 ≡ readOf 2 sites plain mem (a - base) n 9
+      → partRead 2 sites plain part (a - base) 9 ≡ plainRead 2 sites plain mem (a - base) n 9
   unfolding stretchOf
   read-window sites plain block q f =
       let h = within-window base (length mem) a n q in

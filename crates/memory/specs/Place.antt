@@ -1,16 +1,21 @@
 -- 01, "Address": "for n of 1 or more: all n bytes lie in 0 to 135, or all in the window, else inval". Sums do not wrap.
-use Prim.Native.Nat.{ℕ, _+_, _-_}
-use mathlib.Core.Bool.{cond, _&&_}
+use Prim.Native.Nat.{ℕ, _+_, _-_, _%_}
+use mathlib.Core.Bool.{Bool, cond, _&&_}
 use mathlib.Core.List.{List, []}
-use lib.Dec.{leb}
+use lib.Dec.{leb, eqb}
 use lib.ListN.{take, drop}
+use Rattle.target.specs.Limits.{blockSize}
 use Rattle.memory.specs.declared.Place.{Place}
 use Rattle.memory.specs.declared.Place.the-variants.{Registers, Window, Nowhere}
 
 -- where the n bytes from address a lie, with the window of size bytes at base
 unfoldable pub placeOf : ℕ → ℕ → ℕ → ℕ → Place
 placeOf base size a n =
-    cond (leb (a + n) 136) Registers (cond (leb base a && leb (a + n) (base + size)) Window Nowhere)
+    cond (leb (a + n) blockSize) Registers (cond (leb base a && leb (a + n) (base + size)) Window Nowhere)
+
+-- an address at which a trap can stand: "each site is even, has both bytes in the window"
+unfoldable pub isSite : ℕ → ℕ → ℕ → Bool
+isSite base size a = eqb (a % 2) 0 && leb base a && leb (a - base + 2) size
 
 -- "The stretch an address names is one part of the register area or of the window"
 unfoldable pub stretchOf : Place → List ℕ → List ℕ → ℕ → ℕ → ℕ → List ℕ

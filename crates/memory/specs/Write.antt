@@ -12,8 +12,8 @@ unfoldable pub bytesAt : List ℕ → ℕ → ℕ → ℕ → List ℕ
 bytesAt l at n m = tab m (λ j. cond (ltb j n) (getD l (at + j) 0) 0)
 
 -- the same of the plain bytes, one by one
-unfoldable pub readOf : ℕ → List ℕ → List ℕ → List ℕ → ℕ → ℕ → ℕ → List ℕ
-readOf w sites plain mem at n m = tab m (λ j. cond (ltb j n) (plainAt w sites plain mem (at + j)) 0)
+unfoldable pub plainRead : ℕ → List ℕ → List ℕ → List ℕ → ℕ → ℕ → ℕ → List ℕ
+plainRead w sites plain mem at n m = tab m (λ j. cond (ltb j n) (plainAt w sites plain mem (at + j)) 0)
 
 -- the same where just the part of the window from offset at on is given: all of the part
 unfoldable pub partRead : ℕ → List ℕ → List ℕ → List ℕ → ℕ → ℕ → List ℕ

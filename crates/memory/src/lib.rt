@@ -2,14 +2,19 @@
 //
 // Everything goes by offset into the window. A table of breakpoints is given by two small arrays: the slots' sites, where a free
 // slot has the odd site 1, and the slots' plain bytes, two for each slot.
+use target::Table;
 ghost use mathlib.Core.Path.{_≡_};
-ghost use mathlib.Core.List.{List, _∷_, []};
-ghost use Prim.Native.Nat.{ℕ, _+_, _≤_, min};
+ghost use mathlib.Core.List.{_∷_, []};
+ghost use Prim.Native.Nat.{_+_, _≤_};
 ghost use lib.ListN.{length};
 ghost use Rattle.memory.specs.Overlay.{slotOf, plainAt, plainOf, laidOver};
 ghost use Rattle.memory.specs.Write.{partRead, memAfter, plainAfter};
 
-// Where the bytes that a request names lie; crate `place` says where.
+// The trap, c.ebreak, as it stands in memory.
+pub const TRAP_FIRST: u8 = 0x02;
+pub const TRAP_SECOND: u8 = 0x90;
+
+// Where the bytes that a request names lie; crate `memory_place` says where.
 pub enum Place {
     Registers,
     Window,
@@ -17,14 +22,14 @@ pub enum Place {
 }
 
 // The first slot whose site covers an offset, or 8.
-pub fn slot_of(sites: &[u32; 8], at: usize) -> usize
+pub fn slot_of(sites: &[u32; Table::ENTRIES], at: usize) -> usize
     ensures { λ r. ⌜ r ≡ slotOf 2 (now (sites .entry)) at ⌝ }
 {
     let all = &sites[..];
     let over = at - at % 2;
     let mut k: usize = 0;
     let slot = loop {
-        if k == 8 {
+        if k == Table::ENTRIES {
             break k;
         }
         let site = all[k] as usize;
@@ -37,7 +42,7 @@ pub fn slot_of(sites: &[u32; 8], at: usize) -> usize
 }
 
 // The plain byte at an offset.
-pub fn plain_at(mem: &[u8], sites: &[u32; 8], plain: &[u8; 16], at: usize) -> u8
+pub fn plain_at(mem: &[u8], sites: &[u32; Table::ENTRIES], plain: &[u8; Table::PLAIN], at: usize) -> u8
     ensures { λ r. ⌜ r ≡ plainAt 2 (now (sites .entry)) (now (plain .entry)) (now (mem .entry)) at ⌝ }
 {
     let all = &sites[..];
@@ -51,31 +56,13 @@ pub fn plain_at(mem: &[u8], sites: &[u32; 8], plain: &[u8; 16], at: usize) -> u8
     0
 }
 
-// The lesser of two numbers.
-fn least(a: usize, b: usize) -> usize
-    ensures { λ r. ⌜ r ≡ min a b ⌝ }
-{
-    if a < b {
-        return a;
-    }
-    b
-}
-
-// An offset that reads as the given one, and to which a few can be added. A site is a u32, so past them all one offset reads as any
-// other; the sites are lent for the contract alone.
-fn near(sites: &[u32], at: usize) -> usize
-    ensures { λ r. ⌜ (r ≤ 4294967297) × ((plain part : List ℕ) → partRead 2 (now (sites .entry)) plain part r 9 ≡ partRead 2 (now (sites .entry)) plain part at 9) ⌝ }
-{
-    least(at, 4294967297)
-}
-
 // The bytes of a part of the window that lies at an offset, those under traps plain, then zeros.
-pub fn read(part: &[u8], sites: &[u32; 8], plain: &[u8; 16], at: usize) -> [u8; 9]
+pub fn read(part: &[u8], sites: &[u32; Table::ENTRIES], plain: &[u8; Table::PLAIN], at: u32) -> [u8; 9]
     ensures { λ r. ⌜ r ≡ partRead 2 (now (sites .entry)) (now (plain .entry)) (now (part .entry)) at 9 ⌝ }
 {
     let all = &sites[..];
     let kept = &plain[..];
-    let from = near(all, at);
+    let from = at as usize;
     let mut out: [u8; 9] = [0; 9];
     let mut j: usize = 0;
     while j < 9 {
@@ -95,10 +82,14 @@ pub fn read(part: &[u8], sites: &[u32; 8], plain: &[u8; 16], at: usize) -> [u8; 
 }
 
 // Writes a stretch: each byte to memory or, under a trap, to the slot's plain bytes.
-pub fn write(mem: &mut [u8], sites: &[u32; 8], plain: &mut [u8; 16], at: usize, bytes: &[u8])
+pub fn write(mem: &mut [u8], sites: &[u32; Table::ENTRIES], plain: &mut [u8; Table::PLAIN], at: usize, bytes: &[u8])
     requires { ⌜ at + length (now bytes) ≤ length (now mem) ⌝ }
-    ensures { λ _. ⌜ now (mem .exit) ≡ memAfter 2 (now (sites .entry)) (now (mem .entry)) at (now (bytes .entry)) ⌝ }
-    ensures { λ _. ⌜ now (plain .exit) ≡ plainAfter 2 (now (sites .entry)) (now (plain .entry)) at (now (bytes .entry)) ⌝ }
+    ensures {
+        λ _. ⌜ now (mem .exit) ≡ memAfter 2 (now (sites .entry)) (now (mem .entry)) at (now (bytes .entry)) ⌝
+    }
+    ensures {
+        λ _. ⌜ now (plain .exit) ≡ plainAfter 2 (now (sites .entry)) (now (plain .entry)) at (now (bytes .entry)) ⌝
+    }
 {
     let all = &sites[..];
     let kept = &mut plain[..];
@@ -132,11 +123,11 @@ pub fn lay(mem: &mut [u8], site: usize, b0: u8, b1: u8)
 }
 
 // Puts the plain bytes back at every site, the last slot first, so that the first slot of a site decides.
-pub fn restore(mem: &mut [u8], sites: &[u32; 8], plain: &[u8; 16])
+pub fn restore(mem: &mut [u8], sites: &[u32; Table::ENTRIES], plain: &[u8; Table::PLAIN])
     ensures { λ _. ⌜ now (mem .exit) ≡ plainOf 2 (now (sites .entry)) (now (plain .entry)) (now (mem .entry)) ⌝ }
 {
     let all = &sites[..];
-    let mut k: usize = 8;
+    let mut k: usize = Table::ENTRIES;
     while 0 < k {
         k -= 1;
         lay(mem, all[k] as usize, plain[2 * k], plain[2 * k + 1]);

@@ -11,7 +11,7 @@ use Rattle.common.proofs.Fill.{fill-ext}
 use Rattle.common.proofs.Same.{true-or-false}
 use Rattle.common.proofs.Tab.{tab-ext}
 use Rattle.memory.specs.Overlay.{covered, plainAt, plainOf, laidAt, laidOver}
-use Rattle.memory.specs.Write.{bytesAt, readOf, writtenAt, overwritten, memAfter, plainAfter}
+use Rattle.memory.specs.Write.{bytesAt, plainRead, writtenAt, overwritten, memAfter, plainAfter}
 use Rattle.memory.proofs.Site.{Free}
 use Rattle.memory.proofs.Slots.{none-covered}
 use Rattle.memory.proofs.Bytes.{length-plain, plain-at, plain-under, plain-bare, plain-is, laid-is}
@@ -38,8 +38,8 @@ laid-same t sites sites′ bytes same = tab-ext (length bytes) _ _ (λ i h. rw (
 
 -- reads answer plain memory
 pub read-plain : (w : ℕ) (sites plain mem : List ℕ) (at n m : ℕ) → at + n ≤ length mem
-    → readOf w sites plain mem at n m ≡ bytesAt (plainOf w sites plain mem) at n m
-unfolding readOf bytesAt
+    → plainRead w sites plain mem at n m ≡ bytesAt (plainOf w sites plain mem) at n m
+unfolding plainRead bytesAt
 read-plain w sites plain mem at n m fits =
     fill-ext (λ j. plainAt w sites plain mem (at + j)) (λ _. 0) n m (λ j. getD (plainOf w sites plain mem) (at + j) 0)
     (λ j h. sym (plain-at w sites plain mem (at + j) (omega arith)))

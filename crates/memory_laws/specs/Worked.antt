@@ -6,7 +6,7 @@ use Rattle.common.specs.First.{firstOf}
 use Rattle.common.specs.Tab.{tab}
 use Rattle.memory.specs.Head.{trapBytes, house}
 use Rattle.memory.specs.Overlay.{noSite, siteOver, slotOf, covered, plainAt, plainOf, laidAt, laidOver}
-use Rattle.memory.specs.Write.{readOf, writtenAt, overwritten, memAfter, offsetOf, plainAfter}
+use Rattle.memory.specs.Write.{plainRead, writtenAt, overwritten, memAfter, offsetOf, plainAfter}
 
 -- a window of twelve bytes
 abbrev pub window : List ℕ
@@ -42,8 +42,8 @@ pub record Worked : Type 0 where
   -- plain memory is then the window with the bytes written
   pub after : plainOf 2 sites plain′ mem ≡ overwritten window 5 bytes
   -- and a read of six bytes from offset 4 answers them, with zeros up to nine
-  pub read : readOf 2 sites plain′ mem 4 6 9 ≡ 4 ∷ 0xaa ∷ 0xbb ∷ 0xcc ∷ 0xdd ∷ 9 ∷ 0 ∷ 0 ∷ 0 ∷ []
+  pub read : plainRead 2 sites plain′ mem 4 6 9 ≡ 4 ∷ 0xaa ∷ 0xbb ∷ 0xcc ∷ 0xdd ∷ 9 ∷ 0 ∷ 0 ∷ 0 ∷ []
 
 pub worked : Worked
-unfolding tab firstOf siteOver slotOf covered plainAt plainOf laidAt laidOver readOf writtenAt overwritten memAfter offsetOf plainAfter
+unfolding tab firstOf siteOver slotOf covered plainAt plainOf laidAt laidOver plainRead writtenAt overwritten memAfter offsetOf plainAfter
 worked = record { laid = refl; whole = refl; real = refl; under = refl; after = refl; read = refl }

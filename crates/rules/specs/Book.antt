@@ -1,18 +1,20 @@
--- 01, "The book of demand 3": the book, what feeds it, and the claim about every list of steps. This file says what is promised; it
--- cites the rules (what the steps answer) and nothing of the proof. The theorem is `demand3` in Theorem.antt.
+-- 01, "The book of demand 3": the book, what feeds it, and what it says of memory and of reads. It is fed "the setup,
+-- each step's arguments .., number and answer, and each outside change; nothing from the record". Claim.antt says
+-- what is claimed by it.
 --
--- h is the head (Head.antt of memory): its trap, two bytes as they stand in memory, and the value of a word's bytes. 01 has the house's:
--- "in memory the bytes 02 90", and words "low-order first".
+-- h is the head (Head.antt of memory): its trap, two bytes as they stand in memory, and the value of a word's bytes.
+-- 01 has the house's: "in memory the bytes 02 90", and words "low-order first".
 use mathlib.Core.Path.{_≡_}
-use Prim.Native.Nat.{ℕ, _+_, _-_}
+use Prim.Native.Nat.{ℕ, _+_, _-_, _*_}
 use Prim.Native.Char.{code}
 use mathlib.Core.Bool.{Bool, true, false, cond, not, _&&_}
 use mathlib.Core.List.{List, [], _∷_, _++_, map}
 use mathlib.Core.Option.{Option, none, some}
 use lib.Dec.{leb, ltb, eqb}
-use lib.ListN.{getD, take, set}
+use lib.ListN.{length, getD, take, set}
 use Rattle.common.specs.First.{firstOf}
 use Rattle.common.specs.Keys.{among}
+use Rattle.common.specs.Numbers.{accepted, wrongSize, unlistedPid, stoppedProcess, noSite}
 use Rattle.condition.specs.Evaluate.{evalFrom}
 use Rattle.condition.specs.declared.Fetched.{Fetched}
 use Rattle.condition.specs.declared.Fetched.the-variants.{Word, Outside}
@@ -22,21 +24,21 @@ use Rattle.memory.specs.Place.{placeOf}
 use Rattle.memory.specs.Write.{bytesAt, overwritten}
 use Rattle.memory.specs.declared.Place.{Place}
 use Rattle.memory.specs.declared.Place.the-variants.{Registers, Window, Nowhere}
-use Rattle.request.specs.Request.{parseOf}
-use Rattle.request.specs.declared.Parsed.{Parsed}
-use Rattle.request.specs.declared.Parsed.the-variants.{Request, Refused, NotTen}
+use Rattle.request_parse.specs.Request.{parseOf}
+use Rattle.request_parse.specs.declared.Parsed.{Parsed}
+use Rattle.request_parse.specs.declared.Parsed.the-variants.{Request, Refused, NotTen}
 use Rattle.target.specs.declared.Element.{Element}
-use Rattle.target.specs.declared.Target.{Target}
 use Rattle.wire.specs.Message.{bytes4, bytesOf}
 use Rattle.wire.specs.declared.Data4.{Data4}
 use Rattle.wire.specs.declared.Message.{Message}
-use Rattle.wire.specs.declared.Message.the-variants.{Tmget, Tmput, Tproc, Tstatus, Trnote, Tstop, Tstart, Tcondbreak, Rerr, Rmget, Rmput, Rproc, Rstatus, Rrnote, Rstop, Rstart, Rcondbreak}
+use Rattle.wire.specs.declared.Message.the-variants.{Tmget, Tmput, Tproc, Tstatus, Trnote, Tstop, Tstart, Tcondbreak}
+use Rattle.wire.specs.declared.Message.the-variants.{Rerr, Rmget, Rmput, Rproc, Rstatus, Rrnote, Rstop, Rstart}
+use Rattle.wire.specs.declared.Message.the-variants.{Rcondbreak}
 use Rattle.rules.specs.declared.Answer.{Answer}
 use Rattle.rules.specs.declared.Answer.the-variants.{Nothing, Stop, Pass, Yes, No}
-use Rattle.rules.specs.Outcome.{Outcome}
 use Rattle.rules.specs.Record.{pcOf, blockAt}
 use Rattle.rules.specs.Request.{data9Of}
-use Rattle.rules.specs.Step.{setupOf, Step, request, trapEvent, scheduleEvent, stateEvent, restartStep, stepOf}
+use Rattle.rules.specs.Step.{Setup, isAccepted, Step, request, trapEvent, scheduleEvent, stateEvent, restartStep}
 
 -- ---- the book: "plain memory .., a draft (id, elements), breakpoints (id, site, elements) and Stopped processes"
 
@@ -55,19 +57,6 @@ pub record Book : Type 0 where
   pub breakpoints : List Breakpoint
   pub stopped : List ℕ
 
--- what setup was given
-pub record Setup : Type 0 where
-  pub base : ℕ
-  pub size : ℕ
-  pub pids : List ℕ
-  pub addresses : List ℕ
-  pub count : ℕ
-  pub mem : List ℕ
-  pub regs : List ℕ
-
-unfoldable pub setupBy : Setup → Outcome
-setupBy s = setupOf (s .base) (s .size) (s .pids) (s .addresses) (s .count) (s .mem) (s .regs)
-
 -- "plain memory, at setup the memory lent; and, at first none, a draft .., breakpoints .. and Stopped processes"
 unfoldable pub opened : Setup → Book
 opened s = record { plain = s .mem; draft = none; breakpoints = []; stopped = [] }
@@ -77,8 +66,8 @@ opened s = record { plain = s .mem; draft = none; breakpoints = []; stopped = []
 unfoldable pub withPlain : Book → List ℕ → Book
 withPlain b m = record { plain = m; draft = b .draft; breakpoints = b .breakpoints; stopped = b .stopped }
 
-unfoldable pub withDraft : Book → Option Pending → Book
-withDraft b d = record { plain = b .plain; draft = d; breakpoints = b .breakpoints; stopped = b .stopped }
+unfoldable pub withPending : Book → Option Pending → Book
+withPending b d = record { plain = b .plain; draft = d; breakpoints = b .breakpoints; stopped = b .stopped }
 
 unfoldable pub withBreakpoints : Book → List Breakpoint → Book
 withBreakpoints b l = record { plain = b .plain; draft = b .draft; breakpoints = l; stopped = b .stopped }
@@ -87,9 +76,9 @@ unfoldable pub withStopped : Book → List ℕ → Book
 withStopped b l = record { plain = b .plain; draft = b .draft; breakpoints = b .breakpoints; stopped = l }
 
 -- the breakpoints for which the test fails
-unfoldable pub without : (Breakpoint → Bool) → List Breakpoint → List Breakpoint
-without f [] = []
-without f (x ∷ xs) = cond (f x) (without f xs) (x ∷ without f xs)
+unfoldable pub removing : (Breakpoint → Bool) → List Breakpoint → List Breakpoint
+removing f [] = []
+removing f (x ∷ xs) = cond (f x) (removing f xs) (x ∷ removing f xs)
 
 -- the numbers other than x
 unfoldable pub others : ℕ → List ℕ → List ℕ
@@ -111,7 +100,8 @@ unfoldable pub bookWrite : Setup → Book → ℕ → ℕ → Data4 → Book
 bookWrite s b addr n d =
     cond (inWindow s addr n) (withPlain b (overwritten (b .plain) (addr - s .base) (take n (bytes4 d)))) b
 
--- ---- "An accepted n makes a new draft with its id, an accepted element joins it, an accepted b sets it as a breakpoint at val.
+-- ---- "An accepted n makes a new draft with its id, an accepted element joins it, an accepted b sets it as a
+-- breakpoint at val.
 -- An accepted d removes the one of its id"
 
 unfoldable pub joins : Option Pending → Element → Option Pending
@@ -124,10 +114,10 @@ sets (some p) val l = record { id = p .id; site = val; elements = p .elements } 
 
 unfoldable pub bookCondbreak : Book → ℕ → ℕ → Book
 bookCondbreak b val op =
-    cond (eqb op (code "n")) (withDraft b (some (record { id = val; elements = [] })))
-    (cond (eqb op (code "b")) (withBreakpoints (withDraft b none) (sets (b .draft) val (b .breakpoints)))
-    (cond (eqb op (code "d")) (withBreakpoints b (without (λ x. eqb (x .id) val) (b .breakpoints)))
-    (withDraft b (joins (b .draft) (record { letter = op; value = val })))))
+    cond (eqb op (code "n")) (withPending b (some (record { id = val; elements = [] })))
+    (cond (eqb op (code "b")) (withBreakpoints (withPending b none) (sets (b .draft) val (b .breakpoints)))
+    (cond (eqb op (code "d")) (withBreakpoints b (removing (λ x. eqb (x .id) val) (b .breakpoints)))
+    (withPending b (joins (b .draft) (record { letter = op; value = val })))))
 
 -- ---- "An accepted Tstart ends that and, where it was so, removes a breakpoint at the pc in its register block"
 
@@ -135,10 +125,11 @@ unfoldable pub bookStart : Setup → Book → List ℕ → ℕ → Book
 bookStart s b regs pid =
     let pc = pcOf (blockAt regs (firstOf (eqb pid) (take (s .count) (s .pids)))) in
     cond (among (b .stopped) pid)
-    (withBreakpoints (withStopped b (others pid (b .stopped))) (without (λ x. eqb (x .site) pc) (b .breakpoints)))
+    (withBreakpoints (withStopped b (others pid (b .stopped))) (removing (λ x. eqb (x .site) pc) (b .breakpoints)))
     b
 
--- ---- what feeds the book: a step's arguments, its number and its answer. "All else, and every refused step, changes nothing"
+-- ---- what feeds the book: a step's arguments, its number and its answer. "All else, and every refused step, changes
+-- nothing"
 
 unfoldable pub bookServed : Setup → Book → List ℕ → Message → Book
 bookServed s b regs (Tmget addr n) = b
@@ -172,16 +163,14 @@ bookAnswer b pid (Pass x y) = b
 bookAnswer b pid Yes = withStopped b (pid ∷ b .stopped)
 bookAnswer b pid No = b
 
--- "A step is refused if its number is not 0 or a request got Rerr"
-unfoldable pub isAccepted : ℕ → List ℕ → Bool
-isAccepted number reply = eqb number 0 && not (eqb (getD reply 0 0) 1)
-
 unfoldable pub fed : Setup → Book → Step → ℕ → Answer → List ℕ → Book
-fed s b (request regs bytes buffer) number answer reply = cond (isAccepted number reply) (bookRequest s b regs (parseOf bytes)) b
-fed s b (trapEvent regs pid block) number answer reply = cond (eqb number 0) (bookAnswer b pid answer) b
-fed s b (scheduleEvent regs pid block) number answer reply = cond (eqb number 0) (bookAnswer b pid answer) b
+fed s b (request regs bytes buffer) number answer reply =
+    cond (isAccepted number reply) (bookRequest s b regs (parseOf bytes)) b
+fed s b (trapEvent regs pid block) number answer reply = cond (eqb number accepted) (bookAnswer b pid answer) b
+fed s b (scheduleEvent regs pid block) number answer reply = cond (eqb number accepted) (bookAnswer b pid answer) b
 fed s b (stateEvent regs pid value) number answer reply = b
-fed s b (restartStep regs buffer) number answer reply = cond (eqb number 0) (withStopped (withBreakpoints b []) []) b
+fed s b (restartStep regs buffer) number answer reply =
+    cond (eqb number accepted) (withStopped (withBreakpoints b []) []) b
 
 -- ---- traps by the book
 
@@ -199,35 +188,15 @@ underTrap s b i = covered 2 (sitesBy s b) i
 
 -- ---- reads by the book: "a Tmget served from the window, the bytes of Pass, what * reads"
 
--- a Tmget of the window answers plain memory's bytes
-unfoldable pub ReadsMessage : Setup → Book → Message → List ℕ → Type 0
-ReadsMessage s b (Tmget addr n) reply = inWindow s addr n ≡ true → reply ≡ bytesOf (Rmget (data9Of (bytesAt (b .plain) (addr - s .base) n 9)))
-ReadsMessage s b (Tmput addr n d) reply = Unit
-ReadsMessage s b (Tproc pid) reply = Unit
-ReadsMessage s b (Tstatus pid) reply = Unit
-ReadsMessage s b (Trnote pid) reply = Unit
-ReadsMessage s b (Tstop pid) reply = Unit
-ReadsMessage s b (Tstart pid) reply = Unit
-ReadsMessage s b (Tcondbreak val op) reply = Unit
-ReadsMessage s b (Rerr r) reply = Unit
-ReadsMessage s b (Rmget d) reply = Unit
-ReadsMessage s b Rmput reply = Unit
-ReadsMessage s b (Rproc addr) reply = Unit
-ReadsMessage s b (Rstatus x) reply = Unit
-ReadsMessage s b Rrnote reply = Unit
-ReadsMessage s b Rstop reply = Unit
-ReadsMessage s b Rstart reply = Unit
-ReadsMessage s b Rcondbreak reply = Unit
-
-unfoldable pub ReadsRequest : Setup → Book → Parsed → List ℕ → Type 0
-ReadsRequest s b (Request m) reply = ReadsMessage s b m reply
-ReadsRequest s b (Refused r) reply = Unit
-ReadsRequest s b NotTen reply = Unit
+-- what a Tmget of the window replies
+unfoldable pub readBy : Setup → Book → ℕ → ℕ → List ℕ
+readBy s b addr n = bytesOf (Rmget (data9Of (bytesAt (b .plain) (addr - s .base) n 9)))
 
 -- what * reads: plain memory's four bytes, as a word of the head
 unfoldable pub fetchBy : Head → Setup → Book → ℕ → Fetched
 fetchBy h s b a =
-    cond (leb (s .base) a && leb (a + 4) (s .base + s .size)) (Word (h .word (bytesAt (b .plain) (a - s .base) 4 4))) Outside
+    cond (leb (s .base) a && leb (a + 4) (s .base + s .size))
+    (Word (h .word (bytesAt (b .plain) (a - s .base) 4 4))) Outside
 
 -- "An accepted trap event answers by its rule over the book's breakpoints and plain memory"
 unfoldable pub answerOf : Head → Setup → Book → ℕ → Breakpoint → Answer
@@ -242,37 +211,11 @@ answerAmong h s b pid pc (x ∷ xs) = cond (eqb (x .site) pc) (answerOf h s b pi
 unfoldable pub trapBy : Head → Setup → Book → ℕ → List ℕ → Answer
 trapBy h s b pid block = answerAmong h s b pid (pcOf block) (b .breakpoints)
 
--- ---- what is claimed of one step, over the book as it stood before it
-
-unfoldable pub RightStep : Head → Setup → Book → Step → Outcome → Type 0
-RightStep h s b (request regs bytes buffer) o = isAccepted (o .number) (o .reply) ≡ true → ReadsRequest s b (parseOf bytes) (o .reply)
-RightStep h s b (trapEvent regs pid block) o = o .number ≡ 0 → o .answer ≡ trapBy h s b pid block
-RightStep h s b (scheduleEvent regs pid block) o = Unit
-RightStep h s b (stateEvent regs pid value) o = Unit
--- "an accepted restart leaves exactly plain memory"
-RightStep h s b (restartStep regs buffer) o = o .number ≡ 0 → o .after .mem ≡ b .plain
-
--- ---- lists: a step with everything lent to it, or an outside change of one byte of memory, by its offset
-
-pub data Event : Type 0 where
-  step : Step → Event
-  change : (offset byte : ℕ) → Event
-
--- The claim about a list, from a record, its memory and the book:
--- real memory is the book's; no step answers number 3 and each is right by the book; and so on over what the step leaves.
--- An outside change is taken where no trap lies.
-unfoldable pub Claim : Head → Setup → Book → Target → List ℕ → List Event → Type 0
-Claim h s b t mem [] = mem ≡ realBy h s b
-Claim h s b t mem (step e ∷ es) =
-    let o = stepOf h t mem e in
-    (mem ≡ realBy h s b)
-    × (o .number ≡ 3 → ⊥)
-    × RightStep h s b e o
-    × Claim h s (fed s b e (o .number) (o .answer) (o .reply)) (o .after .target) (o .after .mem) es
-Claim h s b t mem (change i byte ∷ es) =
-    (mem ≡ realBy h s b) × (underTrap s b i ≡ false → Claim h s (withPlain b (set (b .plain) i byte)) t (set mem i byte) es)
-
--- "Over every list of steps after an accepted setup", with this head
-abbrev pub Demand3 : Head → Type 0
-Demand3 h =
-    (s : Setup) → setupBy s .number ≡ 0 → (es : List Event) → Claim h s (opened s) (setupBy s .after .target) (s .mem) es
+-- the number of a trap event, by its buffers, its pid, the Stopped processes and the breakpoints: 2, 4, 5, 6, else
+-- accepted
+unfoldable pub trapNumber : Setup → Book → List ℕ → ℕ → List ℕ → ℕ
+trapNumber s b regs pid block =
+    cond (eqb (length regs) (136 * s .count) && eqb (length block) 136)
+    (cond (among (take (s .count) (s .pids)) pid)
+    (cond (among (b .stopped) pid) stoppedProcess
+    (cond (among (map (λ x. x .site) (b .breakpoints)) (pcOf block)) accepted noSite)) unlistedPid) wrongSize

@@ -7,8 +7,8 @@ use lib.ListN.{length, set}
 use Rattle.common.specs.First.{firstOf}
 use Rattle.memory.specs.Head.{Head, trapBytes}
 use Rattle.memory.specs.Overlay.{plainAt, plainOf, laidOver}
-use Rattle.fit.specs.Arrays.{sitesOf, plainsOf}
-use Rattle.fit.specs.Fit.{entryAt}
+use Rattle.target_fit.specs.Arrays.{sitesOf, plainsOf}
+use Rattle.target_fit.specs.Fit.{entryAt}
 use Rattle.target.specs.Free.{isFree, firstFree}
 use Rattle.target.specs.Fresh.{freshEntry, closedDraft}
 use Rattle.target.specs.declared.Draft.{Draft}
@@ -45,7 +45,8 @@ breakpointAt es address = firstOf (isAt address) es
 
 -- "An entry holds an id, a site, the two plain bytes of the site, and 0 to 16 condition elements"
 abbrev pub entryWith : Draft → ℕ → List ℕ → Entry
-entryWith d site plain = record { used = 1; id = d .id; plain = plain; site = site; count = d .count; elements = d .elements }
+entryWith d site plain =
+    record { used = 1; id = d .id; plain = plain; site = site; count = d .count; elements = d .elements }
 
 -- the entry of a new breakpoint, with the plain bytes of the moment
 unfoldable pub madeEntry : World → ℕ → Entry
@@ -68,7 +69,8 @@ unfoldable pub removed : World → ℕ → World
 removed w k =
     let t = w .target in
     let e = entryAt (t .table .entries) k in
-    world (withEntries t (set (t .table .entries) k freshEntry)) (laidOver (e .plain) ((e .site - t .base) ∷ []) (w .mem)) (w .regs)
+    world (withEntries t (set (t .table .entries) k freshEntry))
+    (laidOver (e .plain) ((e .site - t .base) ∷ []) (w .mem)) (w .regs)
 
 -- the breakpoint at an address removed, where there is one
 unfoldable pub removedAt : World → ℕ → World

@@ -1,5 +1,5 @@
 -- 01, "Conditions in Reverse Polish (Tcondbreak)": the requests n, b, d and the elements.
-use Prim.Native.Nat.{ℕ, _+_, _%_}
+use Prim.Native.Nat.{ℕ}
 use Prim.Native.Char.{code}
 use mathlib.Core.Bool.{Bool, cond, not, _&&_, _||_}
 use lib.Dec.{leb, ltb, eqb}
@@ -9,15 +9,17 @@ use Rattle.condition.specs.Add.{addOf}
 use Rattle.condition.specs.declared.Room.{Room}
 use Rattle.condition.specs.declared.Room.the-variants.{Fits, Full, Short}
 use Rattle.condition.specs.declared.Added.{Added}
-use Rattle.fit.specs.Fit.{entryOf}
+use Rattle.target_fit.specs.Fit.{entryOf}
 use Rattle.memory.specs.Head.{Head}
+use Rattle.memory.specs.Place.{isSite}
+use Rattle.target.specs.Limits.{maxElements, maxId}
 use Rattle.target.specs.Free.{firstFree}
 use Rattle.target.specs.Fresh.{closedDraft, noElement}
 use Rattle.target.specs.declared.Draft.{Draft}
 use Rattle.target.specs.declared.Element.{Element}
 use Rattle.wire.specs.declared.Message.the-variants.{Rcondbreak}
-use Rattle.text.specs.declared.Reason.{Reason}
-use Rattle.text.specs.declared.Reason.the-variants.{Count, Inval}
+use Rattle.wire_text.specs.declared.Reason.{Reason}
+use Rattle.wire_text.specs.declared.Reason.the-variants.{Count, Inval}
 use Rattle.rules.specs.Outcome.{World, world, Outcome, replied, error}
 use Rattle.rules.specs.Record.{withDraft}
 use Rattle.rules.specs.Breakpoint.{breakpointAt, planted, removed}
@@ -36,13 +38,13 @@ inHand w = not (eqb (w .target .table .draft .active) 0)
 
 -- a condition with an id and no element
 unfoldable pub begun : ℕ → Draft
-begun id = record { active = 1; id = id; count = 0; elements = replicate 16 noElement }
+begun id = record { active = 1; id = id; count = 0; elements = replicate maxElements noElement }
 
 -- "n val: begins a condition, replacing one in hand. Id over 255 or in use: inval; then, table full: count"
 unfoldable pub beginCondition : World → ℕ → Outcome
 beginCondition w val =
     let es = w .target .table .entries in
-    cond (ltb 255 val || ltb (entryOf es val) (length es)) (failed Inval w)
+    cond (ltb maxId val || ltb (entryOf es val) (length es)) (failed Inval w)
     (cond (leb (length es) (firstFree es)) (failed Count w)
     (replied Rcondbreak (world (withDraft (w .target) (begun val)) (w .mem) (w .regs))))
 
@@ -62,20 +64,21 @@ unfoldable pub siteFree : World → ℕ → Bool
 siteFree w val =
     let t = w .target in
     let es = t .table .entries in
-    eqb (val % 2) 0 && leb (t .base) val && leb (val + 2) (t .base + t .size) && leb (length es) (breakpointAt es val)
+    isSite (t .base) (t .size) val && leb (length es) (breakpointAt es val)
 
 -- "b val: nothing in hand, odd or outside site, site taken, or depth not 1: inval"
 unfoldable pub setBreakpoint : Head → World → ℕ → Outcome
 setBreakpoint h w val =
     let d = w .target .table .draft in
-    cond (inHand w && siteFree w val && wellFormed (d .elements) (d .count)) (replied Rcondbreak (planted h w val)) (failed Inval w)
+    let fits = inHand w && siteFree w val && wellFormed (d .elements) (d .count) in
+    cond fits (replied Rcondbreak (planted h w val)) (failed Inval w)
 
 -- "d val: the breakpoint is removed .. Unknown id: inval. The condition in hand stays in either case"
 unfoldable pub deleteBreakpoint : World → ℕ → Outcome
 deleteBreakpoint w val =
     let es = w .target .table .entries in
     let k = entryOf es val in
-    cond (leb val 255 && ltb k (length es)) (replied Rcondbreak (removed w k)) (error Inval w)
+    cond (leb val maxId && ltb k (length es)) (replied Rcondbreak (removed w k)) (error Inval w)
 
 -- a Tcondbreak that is a message, by its letter
 unfoldable pub condbreak : Head → World → ℕ → ℕ → Outcome

@@ -4,15 +4,16 @@ use mathlib.Core.Bool.{Bool, cond, _||_}
 use mathlib.Core.List.{List, [], _++_, map}
 use lib.Dec.{ltb, eqb}
 use lib.ListN.{length, getD, take, drop}
+use Rattle.common.specs.Numbers.{unlistedPid, stoppedProcess, noSite}
 use Rattle.condition.specs.Evaluate.{evaluateOf, fetchOf}
-use Rattle.fit.specs.Fit.{stopped, processAt, entryAt}
+use Rattle.target_fit.specs.Fit.{stopped, processAt, entryAt}
 use Rattle.memory.specs.Head.{Head}
 use Rattle.target.specs.Fresh.{freshTable}
 use Rattle.target.specs.declared.Entry.{Entry}
 use Rattle.target.specs.declared.Process.{Process}
 use Rattle.target.specs.declared.Target.{Target}
 use Rattle.wire.specs.declared.Message.the-variants.{Rerr}
-use Rattle.text.specs.declared.Reason.the-variants.{Reset}
+use Rattle.wire_text.specs.declared.Reason.the-variants.{Reset}
 use Rattle.rules.specs.declared.Answer.the-variants.{Nothing, Stop, Pass, Yes, No}
 use Rattle.rules.specs.Outcome.{World, world, Outcome, answered, refused, replied}
 use Rattle.rules.specs.Record.{ready, indexOf, withState, setState, isStopped, pcOf, stopWith}
@@ -23,7 +24,7 @@ unfoldable pub onListed : World → ℕ → (ℕ → Process → Outcome) → Ou
 onListed w pid serve =
     let t = w .target in
     let i = indexOf t pid in
-    cond (ltb i (t .count)) (serve i (processAt (t .processes) i)) (refused 4 w [])
+    cond (ltb i (t .count)) (serve i (processAt (t .processes) i)) (refused unlistedPid w [])
 
 -- ---- Trap
 
@@ -33,7 +34,8 @@ holds h w pid e =
     let t = w .target in
     evaluateOf (fetchOf h (sites t) (plains t) (w .mem) (t .base)) pid (e .elements) (e .count)
 
--- "True: the block is saved, the process is Stopped, its mark cleared, answer Stop with the id. False: nothing changes, answer Pass"
+-- "True: the block is saved, the process is Stopped, its mark cleared, answer Stop with the id. False: nothing
+-- changes, answer Pass"
 unfoldable pub trapped : Head → World → ℕ → ℕ → List ℕ → Entry → Outcome
 trapped h w i pid block e =
     cond (holds h w pid e) (answered (Stop (e .id)) (stopWith w i block))
@@ -46,9 +48,11 @@ trap h w pid block =
     (λ i p.
     let es = w .target .table .entries in
     let k = breakpointAt es (pcOf block) in
-    cond (isStopped p) (refused 5 w []) (cond (ltb k (length es)) (trapped h w i pid block (entryAt es k)) (refused 6 w [])))
+    cond (isStopped p) (refused stoppedProcess w [])
+    (cond (ltb k (length es)) (trapped h w i pid block (entryAt es k)) (refused noSite w [])))
 
--- ---- Schedule: "if a stop is wanted, save, state Stopped, clear the mark, answer yes. Otherwise nothing changes, answer no"
+-- ---- Schedule: "if a stop is wanted, save, state Stopped, clear the mark, answer yes. Otherwise nothing changes,
+-- answer no"
 
 unfoldable pub schedule : World → ℕ → List ℕ → Outcome
 schedule w pid block =
@@ -60,7 +64,7 @@ unfoldable pub state : World → ℕ → ℕ → Outcome
 state w pid value =
     onListed w pid
     (λ i p.
-    cond (isStopped p || eqb value stopped) (refused 5 w [])
+    cond (isStopped p || eqb value stopped) (refused stoppedProcess w [])
     (answered Nothing (world (setState (w .target) i value (p .wanted)) (w .mem) (w .regs))))
 
 -- ---- Restart

@@ -1,9 +1,12 @@
 -- 01, "Steps and numbers": what comes out of a step.
 use Prim.Native.Nat.{ℕ}
-use mathlib.Core.List.{List, [], _∷_}
+use mathlib.Core.Bool.{cond}
+use mathlib.Core.List.{List, [], _∷_, _++_}
+use lib.Dec.{eqb}
+use Rattle.common.specs.Numbers.{accepted}
 use Rattle.wire.specs.declared.Message.{Message}
 use Rattle.wire.specs.declared.Message.the-variants.{Rerr}
-use Rattle.text.specs.declared.Reason.{Reason}
+use Rattle.wire_text.specs.declared.Reason.{Reason}
 use Rattle.wire.specs.Message.{bytesOf}
 use Rattle.target.specs.declared.Target.{Target}
 use Rattle.rules.specs.declared.Answer.{Answer}
@@ -34,11 +37,11 @@ refused n w reply = outcome n Nothing w reply
 
 -- number 0, with an answer and no reply
 unfoldable pub answered : Answer → World → Outcome
-answered a w = outcome 0 a w []
+answered a w = outcome accepted a w []
 
 -- number 0, with a reply
 unfoldable pub replied : Message → World → Outcome
-replied m w = outcome 0 Nothing w (bytesOf m)
+replied m w = outcome accepted Nothing w (bytesOf m)
 
 -- number 0, with Rerr
 unfoldable pub error : Reason → World → Outcome
@@ -51,3 +54,11 @@ answerBytes (Stop id) = 1 ∷ id ∷ []
 answerBytes (Pass x y) = 2 ∷ x ∷ y ∷ []
 answerBytes Yes = 1 ∷ []
 answerBytes No = 0 ∷ []
+
+-- what the program writes of a step: "It writes the number, then ten bytes for 1 and 5; 01 id or 02 and two bytes for
+-- 2; 00 or 01 for 3. A step whose number is not 0 writes its number only"
+unfoldable pub shownWith : ℕ → List ℕ → List ℕ
+shownWith number bytes = number ∷ cond (eqb number 0) bytes []
+
+unfoldable pub shown : Outcome → List ℕ
+shown o = shownWith (o .number) (o .reply ++ answerBytes (o .answer))

@@ -1,22 +1,20 @@
 -- The record with one thing changed, and the parts of the register area.
 use Prim.Native.Nat.{ℕ, _*_}
 use mathlib.Core.Bool.{Bool}
-use mathlib.Core.List.{List, [], _∷_}
+use mathlib.Core.List.{List}
 use lib.Dec.{eqb}
-use lib.ListN.{getD, take, drop, set}
-use Rattle.common.specs.Bytes.{ofHighFirst}
+use lib.ListN.{take, drop, set}
+use Rattle.common.specs.Bytes.{wordAt}
 use Rattle.memory.specs.Write.{overwritten}
-use Rattle.fit.specs.Fit.{stopped, processAt, processOf}
+use Rattle.target_fit.specs.Fit.{stopped, processAt, processOf}
+pub use Rattle.target.specs.Limits.{ready}
+use Rattle.target.specs.Limits.{blockSize, pcOffset}
 use Rattle.target.specs.declared.Draft.{Draft}
 use Rattle.target.specs.declared.Entry.{Entry}
 use Rattle.target.specs.declared.Table.{Table}
 use Rattle.target.specs.declared.Process.{Process}
 use Rattle.target.specs.declared.Target.{Target}
 use Rattle.rules.specs.Outcome.{World, world}
-
--- the state byte of a Ready process
-abbrev pub ready : ℕ
-ready = 2
 
 -- ---- the record
 
@@ -79,15 +77,15 @@ isStopped p = eqb (p .state) stopped
 
 -- a block saved, "as it is"
 unfoldable pub saved : List ℕ → ℕ → List ℕ → List ℕ
-saved regs i block = overwritten regs (136 * i) block
+saved regs i block = overwritten regs (blockSize * i) block
 
 -- "pc is at offset 132", high-order first
 unfoldable pub pcOf : List ℕ → ℕ
-pcOf block = ofHighFirst (getD block 132 0 ∷ getD block 133 0 ∷ getD block 134 0 ∷ getD block 135 0 ∷ [])
+pcOf block = wordAt block pcOffset
 
 -- the block of the process at index i
 unfoldable pub blockAt : List ℕ → ℕ → List ℕ
-blockAt regs i = take 136 (drop (136 * i) regs)
+blockAt regs i = take blockSize (drop (blockSize * i) regs)
 
 -- "save, state Stopped, clear the mark"
 unfoldable pub stopWith : World → ℕ → List ℕ → World

@@ -5,15 +5,17 @@ use mathlib.Core.Bool.{Bool, cond, not, _&&_}
 use mathlib.Core.List.{List, [], _∷_}
 use lib.Dec.{leb, ltb, eqb}
 use lib.ListN.{getD, take, drop}
+use Rattle.common.specs.Numbers.{wrongSize}
 use Rattle.common.specs.Same.{allZero}
 use Rattle.memory.specs.Head.{Head}
 use Rattle.memory.specs.Place.{placeOf}
-use Rattle.memory.specs.Write.{bytesAt, readOf, overwritten, memAfter, plainAfter}
+use Rattle.memory.specs.Write.{bytesAt, plainRead, overwritten, memAfter, plainAfter}
 use Rattle.memory.specs.declared.Place.{Place}
 use Rattle.memory.specs.declared.Place.the-variants.{Registers, Window, Nowhere}
-use Rattle.fit.specs.Fit.{processAt}
-use Rattle.request.specs.declared.Parsed.{Parsed}
-use Rattle.request.specs.declared.Parsed.the-variants.{Request, Refused, NotTen}
+use Rattle.target_fit.specs.Fit.{processAt}
+use Rattle.request_parse.specs.declared.Parsed.{Parsed}
+use Rattle.request_parse.specs.declared.Parsed.the-variants.{Request, Refused, NotTen}
+use Rattle.target.specs.Limits.{blockSize}
 use Rattle.target.specs.declared.Entry.{Entry}
 use Rattle.target.specs.declared.Process.{Process}
 use Rattle.target.specs.declared.Target.{Target}
@@ -21,9 +23,11 @@ use Rattle.wire.specs.Message.{bytes4}
 use Rattle.wire.specs.declared.Data4.{Data4}
 use Rattle.wire.specs.declared.Data9.{Data9}
 use Rattle.wire.specs.declared.Message.{Message}
-use Rattle.wire.specs.declared.Message.the-variants.{Tmget, Tmput, Tproc, Tstatus, Trnote, Tstop, Tstart, Tcondbreak, Rerr, Rmget, Rmput, Rproc, Rstatus, Rrnote, Rstop, Rstart, Rcondbreak}
-use Rattle.text.specs.declared.Reason.{Reason}
-use Rattle.text.specs.declared.Reason.the-variants.{Inval, Pid, Notstop}
+use Rattle.wire.specs.declared.Message.the-variants.{Tmget, Tmput, Tproc, Tstatus, Trnote, Tstop, Tstart, Tcondbreak}
+use Rattle.wire.specs.declared.Message.the-variants.{Rerr, Rmget, Rmput, Rproc, Rstatus, Rrnote, Rstop, Rstart}
+use Rattle.wire.specs.declared.Message.the-variants.{Rcondbreak}
+use Rattle.wire_text.specs.declared.Reason.{Reason}
+use Rattle.wire_text.specs.declared.Reason.the-variants.{Inval, Pid, Notstop}
 use Rattle.rules.specs.Outcome.{World, world, Outcome, replied, error, refused}
 use Rattle.rules.specs.Record.{ready, withEntries, withCurrent, indexOf, setState, isStopped, blockAt, pcOf}
 use Rattle.rules.specs.Breakpoint.{sites, plains, removedAt}
@@ -54,10 +58,10 @@ data9Of l = record {
 }
 
 unfoldable pub gotFrom : Place → World → ℕ → ℕ → Outcome
-gotFrom Registers w addr n = onBlock w (λ i. replied (Rmget (data9Of (bytesAt (w .regs) (136 * i + addr) n 9))) w)
+gotFrom Registers w addr n = onBlock w (λ i. replied (Rmget (data9Of (bytesAt (w .regs) (blockSize * i + addr) n 9))) w)
 gotFrom Window w addr n =
     let t = w .target in
-    replied (Rmget (data9Of (readOf 2 (sites t) (plains t) (w .mem) (addr - t .base) n 9))) w
+    replied (Rmget (data9Of (plainRead 2 (sites t) (plains t) (w .mem) (addr - t .base) n 9))) w
 gotFrom Nowhere w addr n = error Inval w
 
 -- "With n = 0 nothing else is looked at: served, nothing changed"
@@ -72,7 +76,15 @@ mget w addr n =
 unfoldable pub withPlains : List Entry → List ℕ → List Entry
 withPlains [] bytes = []
 withPlains (e ∷ es) bytes =
-    record { used = e .used; id = e .id; plain = take 2 bytes; site = e .site; count = e .count; elements = e .elements }
+    record {
+      used = e .used;
+      id = e .id;
+      plain = take 2 bytes;
+      site = e .site;
+      count = e .count;
+      elements =
+          e .elements;
+    }
     ∷ withPlains es (drop 2 bytes)
 
 -- the window with bytes written at an address
@@ -87,7 +99,7 @@ windowWritten w addr bytes =
 unfoldable pub putTo : Place → World → ℕ → List ℕ → Outcome
 putTo Registers w addr bytes =
     cond (leb addr 3) (error Inval w)
-    (onBlock w (λ i. replied Rmput (world (w .target) (w .mem) (overwritten (w .regs) (136 * i + addr) bytes))))
+    (onBlock w (λ i. replied Rmput (world (w .target) (w .mem) (overwritten (w .regs) (blockSize * i + addr) bytes))))
 putTo Window w addr bytes = replied Rmput (windowWritten w addr bytes)
 putTo Nowhere w addr bytes = error Inval w
 
@@ -158,13 +170,15 @@ serve h w Rcondbreak = error Inval w
 
 -- a Tcondbreak whose op is not d and three zeros
 unfoldable pub drops : List ℕ → Bool
-drops l = eqb (getD l 0 0) 16 && not (eqb (getD l 5 0) (code "d") && allZero (getD l 6 0 ∷ getD l 7 0 ∷ getD l 8 0 ∷ []))
+drops l = eqb (getD l 0 0) 16
+    && not (eqb (getD l 5 0) (code "d") && allZero (getD l 6 0 ∷ getD l 7 0 ∷ getD l 8 0 ∷ []))
 
 unfoldable pub refusedBy : World → List ℕ → Reason → Outcome
 refusedBy w l r = cond (drops l) (failed r w) (error r w)
 
--- the request's ten bytes, over a fit record and buffers of the right size
+-- the request's ten bytes, over a fit record and buffers of the right size: the number and the values of each case of
+-- what they ask
 unfoldable pub requestBy : Head → Parsed → World → List ℕ → List ℕ → Outcome
 requestBy h (Request m) w l reply = serve h w m
 requestBy h (Refused r) w l reply = refusedBy w l r
-requestBy h NotTen w l reply = refused 2 w reply
+requestBy h NotTen w l reply = refused wrongSize w reply

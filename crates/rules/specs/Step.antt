@@ -1,14 +1,17 @@
 -- 01, "Steps and numbers": every step, for every record and every input. "Checks go in the order of the numbers."
--- What comes to a trap's bytes or to a word in memory takes the head h (Head.antt of memory) first, here and in the files below.
+-- What comes to a trap's bytes or to a word in memory takes the head h (Head.antt of memory) first, here and in the
+-- files below.
 use Prim.Native.Nat.{ℕ, _*_}
-use mathlib.Core.Bool.{Bool, true, cond, _&&_}
+use mathlib.Core.Bool.{Bool, true, cond, not, _&&_}
 use mathlib.Core.List.{List, []}
 use lib.Dec.{ltb, eqb}
 use lib.ListN.{length, getD}
+use Rattle.common.specs.Numbers.{accepted, brokenSetup, wrongSize, notFit}
 use Rattle.common.specs.Tab.{tab}
-use Rattle.fit.specs.Fit.{windowFit, processesFit, fitOf}
+use Rattle.target_fit.specs.Fit.{windowFit, processesFit, fitOf}
 use Rattle.memory.specs.Head.{Head}
-use Rattle.request.specs.Request.{parseOf}
+use Rattle.request_parse.specs.Request.{parseOf}
+use Rattle.target.specs.Limits.{blockSize, maxProcesses}
 use Rattle.target.specs.Fresh.{noProcess, freshTable, emptyTarget}
 use Rattle.target.specs.declared.Process.{Process}
 use Rattle.target.specs.declared.Target.{Target}
@@ -23,14 +26,15 @@ use Rattle.rules.specs.Event.{trap, schedule, state, restart}
 -- "All begin Ready, unmarked, and none is current"
 unfoldable pub beginning : List ℕ → List ℕ → ℕ → ℕ → Process
 beginning pids addresses count i =
-    cond (ltb i count) (record { pid = getD pids i 0; address = getD addresses i 0; state = ready; wanted = 0 }) noProcess
+    cond (ltb i count) (record { pid = getD pids i 0; address = getD addresses i 0; state = ready; wanted = 0 })
+    noProcess
 
 unfoldable pub setupTarget : ℕ → ℕ → List ℕ → List ℕ → ℕ → Target
 setupTarget base size pids addresses count = record {
   base = base;
   size = size;
   count = count;
-  processes = tab 4 (beginning pids addresses count);
+  processes = tab maxProcesses (beginning pids addresses count);
   selected = 0;
   current = 0;
   table = freshTable;
@@ -41,30 +45,44 @@ unfoldable pub setupOf : ℕ → ℕ → List ℕ → List ℕ → ℕ → List 
 setupOf base size pids addresses count mem regs =
     let t = setupTarget base size pids addresses count in
     cond (windowFit base size && processesFit (t .processes) count)
-    (cond (eqb (length mem) size && eqb (length regs) (136 * count)) (answered Nothing (world t mem regs))
-    (outcome 2 Nothing (world emptyTarget mem regs) []))
-    (outcome 1 Nothing (world emptyTarget mem regs) [])
+    (cond (eqb (length mem) size && eqb (length regs) (blockSize * count)) (answered Nothing (world t mem regs))
+    (outcome wrongSize Nothing (world emptyTarget mem regs) []))
+    (outcome brokenSetup Nothing (world emptyTarget mem regs) [])
+
+-- what a setup is given
+pub record Setup : Type 0 where
+  pub base : ℕ
+  pub size : ℕ
+  pub pids : List ℕ
+  pub addresses : List ℕ
+  pub count : ℕ
+  pub mem : List ℕ
+  pub regs : List ℕ
+
+unfoldable pub setupBy : Setup → Outcome
+setupBy s = setupOf (s .base) (s .size) (s .pids) (s .addresses) (s .count) (s .mem) (s .regs)
 
 -- ---- the checks of every other step
 
 -- number 2: "memory is not M bytes, register area not 136 for each process"
 unfoldable pub sized : World → Bool
-sized w = eqb (length (w .mem)) (w .target .size) && eqb (length (w .regs)) (136 * w .target .count)
+sized w = eqb (length (w .mem)) (w .target .size) && eqb (length (w .regs)) (blockSize * w .target .count)
 
 -- numbers 2 and 3, then the step; rest is the test of its other buffers
 unfoldable pub checked : Head → World → Bool → List ℕ → Outcome → Outcome
 checked h w rest reply step =
-    cond (sized w && rest) (cond (fitOf h (w .target) (w .mem)) step (refused 3 w reply)) (refused 2 w reply)
+    cond (sized w && rest) (cond (fitOf h (w .target) (w .mem)) step (refused notFit w reply))
+    (refused wrongSize w reply)
 
 unfoldable pub requestOf : Head → World → List ℕ → List ℕ → Outcome
 requestOf h w request reply =
     checked h w (eqb (length request) 10 && eqb (length reply) 10) reply (requestBy h (parseOf request) w request reply)
 
 unfoldable pub trapOf : Head → World → ℕ → List ℕ → Outcome
-trapOf h w pid block = checked h w (eqb (length block) 136) [] (trap h w pid block)
+trapOf h w pid block = checked h w (eqb (length block) blockSize) [] (trap h w pid block)
 
 unfoldable pub scheduleOf : Head → World → ℕ → List ℕ → Outcome
-scheduleOf h w pid block = checked h w (eqb (length block) 136) [] (schedule w pid block)
+scheduleOf h w pid block = checked h w (eqb (length block) blockSize) [] (schedule w pid block)
 
 unfoldable pub stateOf : Head → World → ℕ → ℕ → Outcome
 stateOf h w pid value = checked h w true [] (state w pid value)
@@ -80,6 +98,33 @@ pub data Step : Type 0 where
   scheduleEvent : (regs : List ℕ) (pid : ℕ) (block : List ℕ) → Step
   stateEvent : (regs : List ℕ) (pid value : ℕ) → Step
   restartStep : (regs reply : List ℕ) → Step
+
+-- the register area that it is lent
+unfoldable pub regsOf : Step → List ℕ
+regsOf (request regs bytes reply) = regs
+regsOf (trapEvent regs pid block) = regs
+regsOf (scheduleEvent regs pid block) = regs
+regsOf (stateEvent regs pid value) = regs
+regsOf (restartStep regs reply) = regs
+
+-- the reply buffer, where it has one
+unfoldable pub bufferOf : Step → List ℕ
+bufferOf (request regs bytes reply) = reply
+bufferOf (trapEvent regs pid block) = []
+bufferOf (scheduleEvent regs pid block) = []
+bufferOf (stateEvent regs pid value) = []
+bufferOf (restartStep regs reply) = reply
+
+-- "A step is refused if its number is not 0 or a request got Rerr": a request is accepted
+unfoldable pub isAccepted : ℕ → List ℕ → Bool
+isAccepted number reply = eqb number accepted && not (eqb (getD reply 0 0) 1)
+
+unfoldable pub isRefused : Step → Outcome → Bool
+isRefused (request regs bytes reply) o = not (isAccepted (o .number) (o .reply))
+isRefused (trapEvent regs pid block) o = not (eqb (o .number) accepted)
+isRefused (scheduleEvent regs pid block) o = not (eqb (o .number) accepted)
+isRefused (stateEvent regs pid value) o = not (eqb (o .number) accepted)
+isRefused (restartStep regs reply) o = not (eqb (o .number) accepted)
 
 -- what a step does to a record and memory
 unfoldable pub stepOf : Head → Target → List ℕ → Step → Outcome

@@ -1,6 +1,7 @@
 -- 01, "The target record": the fresh table, the empty record, and what stands past the end of an array.
 use mathlib.Core.List.{[]}
 use lib.ListN.{replicate}
+use Rattle.target.specs.Limits.{maxEntries, maxElements, maxProcesses}
 use Rattle.target.specs.declared.Element.{Element}
 use Rattle.target.specs.declared.Entry.{Entry}
 use Rattle.target.specs.declared.Draft.{Draft}
@@ -21,15 +22,15 @@ abbrev pub noProcess : Process
 noProcess = record { pid = 0; address = 0; state = 0; wanted = 0 }
 
 abbrev pub freshEntry : Entry
-freshEntry = record { used = 0; id = 0; plain = replicate 2 0; site = 0; count = 0; elements = replicate 16 noElement }
+freshEntry = record { used = 0; id = 0; plain = replicate 2 0; site = 0; count = 0; elements = replicate maxElements noElement }
 
 -- nothing in hand
 abbrev pub closedDraft : Draft
-closedDraft = record { active = 0; id = 0; count = 0; elements = replicate 16 noElement }
+closedDraft = record { active = 0; id = 0; count = 0; elements = replicate maxElements noElement }
 
 -- "A fresh table has eight free entries and no condition in hand"
 abbrev pub freshTable : Table
-freshTable = record { entries = replicate 8 freshEntry; draft = closedDraft }
+freshTable = record { entries = replicate maxEntries freshEntry; draft = closedDraft }
 
 -- "the record is empty: no process, B and M 0, table fresh, none current"
 abbrev pub emptyTarget : Target
@@ -37,7 +38,7 @@ emptyTarget = record {
   base = 0;
   size = 0;
   count = 0;
-  processes = replicate 4 noProcess;
+  processes = replicate maxProcesses noProcess;
   selected = 0;
   current = 0;
   table = freshTable;

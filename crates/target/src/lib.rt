@@ -21,7 +21,7 @@ pub struct Entry {
     pub plain: [u8; 2],
     pub site: u32,
     pub count: u32,
-    pub elements: [Element; 16],
+    pub elements: [Element; Entry::ELEMENTS],
 }
 
 // The condition in hand, which a Tcondbreak `n` opens: the id that it is for, and its first `count` elements.
@@ -30,12 +30,12 @@ pub struct Draft {
     pub active: u8,
     pub id: u8,
     pub count: u32,
-    pub elements: [Element; 16],
+    pub elements: [Element; Entry::ELEMENTS],
 }
 
 #[repr(C)]
 pub struct Table {
-    pub entries: [Entry; 8],
+    pub entries: [Entry; Table::ENTRIES],
     pub draft: Draft,
 }
 
@@ -53,14 +53,24 @@ pub struct Target {
     pub base: u32,
     pub size: u32,
     pub count: u32,
-    pub processes: [Process; 4],
+    pub processes: [Process; Target::PROCESSES],
     pub selected: u8,
     pub current: u32,
     pub table: Table,
 }
 
+impl Process {
+    // The state bytes that the steps set or test.
+    pub const READY: u8 = 2;
+    pub const STOPPED: u8 = 8;
+    // The bytes of a process's block in the register area, and where its pc is.
+    pub const BLOCK: usize = 136;
+    pub const PC: usize = 132;
+}
+
 impl Entry {
-    pub const ELEMENTS: u32 = 16;
+    pub const ELEMENTS: usize = 16;
+    pub const LAST_ID: u32 = 255;
 
     pub fn free() -> Entry
         ensures { λ r. ⌜ r ≡ freshEntry ⌝ }
@@ -75,7 +85,7 @@ impl Entry {
             plain: [0; 2],
             site: 0,
             count: 0,
-            elements: [none; 16],
+            elements: [none; Entry::ELEMENTS],
         }
     }
 }
@@ -92,13 +102,15 @@ impl Draft {
             active: 0,
             id: 0,
             count: 0,
-            elements: [none; 16],
+            elements: [none; Entry::ELEMENTS],
         }
     }
 }
 
 impl Table {
     pub const ENTRIES: usize = 8;
+    // The plain bytes of all entries, two for each.
+    pub const PLAIN: usize = 16;
 
     // Eight free entries and no condition in hand.
     pub fn new() -> Table
@@ -107,7 +119,7 @@ impl Table {
         let entry = Entry::free();
         let draft = Draft::closed();
         Table {
-            entries: [entry; 8],
+            entries: [entry; Table::ENTRIES],
             draft: draft,
         }
     }
@@ -132,7 +144,7 @@ impl Table {
 }
 
 impl Target {
-    pub const PROCESSES: u32 = 4;
+    pub const PROCESSES: usize = 4;
 
     // What a refused setup leaves: no process, B and M 0, the table fresh, none current.
     pub fn empty() -> Target
@@ -149,7 +161,7 @@ impl Target {
             base: 0,
             size: 0,
             count: 0,
-            processes: [none; 4],
+            processes: [none; Target::PROCESSES],
             selected: 0,
             current: 0,
             table: table,

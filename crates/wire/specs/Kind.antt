@@ -3,7 +3,8 @@ use Prim.Native.Nat.{ℕ}
 use mathlib.Core.List.{List, [], _∷_}
 use Rattle.common.specs.Keys.{Arm, arm, byKeys}
 use Rattle.wire.specs.declared.Kind.{Kind}
-use Rattle.wire.specs.declared.Kind.the-variants.{Tmget, Tmput, Tproc, Tstatus, Trnote, Tstop, Tstart, Tcondbreak, Unsupported, Unknown}
+use Rattle.wire.specs.declared.Kind.the-variants.{Tmget, Tmput, Tproc, Tstatus, Trnote, Tstop, Tstart, Tcondbreak}
+use Rattle.wire.specs.declared.Kind.the-variants.{Unsupported, Unknown}
 
 -- the served requests and Tstartstop and Tkill, which are unsupported, by their type values
 unfoldable pub kinds : List (Arm Kind)

@@ -8,11 +8,14 @@ use Rattle.common.specs.Bytes.{highFirst}
 use Rattle.common.specs.Keys.{arm, byKeys}
 use Rattle.common.specs.Same.{allZero}
 use Rattle.common.specs.Text.{codes, padded}
-use Rattle.text.specs.Text.{reasonName, stateText, addressText}
+use Rattle.wire_text.specs.Text.{reasonName, stateText, addressText}
 use Rattle.wire.specs.declared.Data4.{Data4}
 use Rattle.wire.specs.declared.Data9.{Data9}
 use Rattle.wire.specs.declared.Message.{Message}
-use Rattle.wire.specs.declared.Message.the-variants.{Tmget, Tmput, Tproc, Tstatus, Trnote, Tstop, Tstart, Tcondbreak, Rerr, Rmget, Rmput, Rproc, Rstatus, Rrnote, Rstop, Rstart, Rcondbreak}
+use Rattle.wire.specs.declared.Message.the-variants.{Tmget, Tmput, Tproc, Tstatus}
+use Rattle.wire.specs.declared.Message.the-variants.{Trnote, Tstop, Tstart, Tcondbreak}
+use Rattle.wire.specs.declared.Message.the-variants.{Rerr, Rmget, Rmput, Rproc, Rstatus}
+use Rattle.wire.specs.declared.Message.the-variants.{Rrnote, Rstop, Rstart, Rcondbreak}
 
 unfoldable pub bytes4 : Data4 → List ℕ
 bytes4 d = d .b0 ∷ d .b1 ∷ d .b2 ∷ d .b3 ∷ []

@@ -1,5 +1,5 @@
 // The ten-byte messages of the service line (source 000; document 01, "Ten bytes"): what they are, and writing them.
-use text::Reason;
+use wire_text::Reason;
 ghost use mathlib.Core.Path.{_≡_};
 ghost use mathlib.Core.List.{_∷_, [], _++_};
 ghost use Rattle.common.specs.Bytes.{highFirst};
@@ -177,7 +177,7 @@ pub fn bytes_of(m: Message) -> [u8; 10]
         Message::Tstop { pid } => with_word(12, pid, 0, 0, 0, 0, 0),
         Message::Tstart { pid } => with_word(14, pid, 0, 0, 0, 0, 0),
         Message::Tcondbreak { val, op } => with_word(16, val, op, 0, 0, 0, 0),
-        Message::Rerr { reason } => with_text(1, text::reason_text(reason)),
+        Message::Rerr { reason } => with_text(1, wire_text::reason_text(reason)),
         Message::Rmget { data } => [
             3,
             data.b0,
@@ -191,8 +191,8 @@ pub fn bytes_of(m: Message) -> [u8; 10]
             data.b8,
         ],
         Message::Rmput => with_text(5, [0; 9]),
-        Message::Rproc { addr } => with_text(7, text::address_text(addr)),
-        Message::Rstatus { state } => with_text(9, text::state_text(state)),
+        Message::Rproc { addr } => with_text(7, wire_text::address_text(addr)),
+        Message::Rstatus { state } => with_text(9, wire_text::state_text(state)),
         Message::Rrnote => with_text(11, [0; 9]),
         Message::Rstop => with_text(13, [0; 9]),
         Message::Rstart => with_text(15, [0; 9]),
@@ -200,20 +200,20 @@ pub fn bytes_of(m: Message) -> [u8; 10]
     }
 }
 
-// Writes a message's ten bytes into the buffer. The answer is the number: 0, 2 for a buffer that is not ten bytes, 7 for
-// what is no message. A refusal writes nothing.
+// Writes a message's ten bytes into the buffer. The answer is the paper's number: accepted, a buffer that is not ten
+// bytes, or what is no message. A refusal writes nothing.
 pub fn write(m: Message, buffer: &mut [u8]) -> u8
     ensures { λ r. ⌜ written r (now (buffer .exit)) ≡ writeOf m (now (buffer .entry)) ⌝ }
 {
     if buffer.len() != 10 {
-        return 2;
+        return common::WRONG_SIZE;
     }
     if !is_message(m) {
-        return 7;
+        return common::NO_MESSAGE;
     }
     let bytes = bytes_of(m);
     common::copy(buffer, &bytes);
-    0
+    common::ACCEPTED
 }
 
 // The paper's number of an answer.
@@ -221,8 +221,8 @@ pub fn number_of(r: Reading) -> u8
     ensures { λ n. ⌜ n ≡ numberOf r ⌝ }
 {
     match r {
-        Reading::Accepted(_) => 0,
-        Reading::WrongSize => 2,
-        Reading::NoMessage => 7,
+        Reading::Accepted(_) => common::ACCEPTED,
+        Reading::WrongSize => common::WRONG_SIZE,
+        Reading::NoMessage => common::NO_MESSAGE,
     }
 }

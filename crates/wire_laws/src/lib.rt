@@ -1,1 +1,2 @@
-// Theorems over the definitions of `wire`. They stand apart from its code, so that an edit of the code rechecks none of them.
+// Theorems over the definitions of `wire`. They stand apart from its code, so that an edit of the code rechecks none of
+// them.

@@ -4,13 +4,13 @@ use contract.Running.{givenOf, tables, tablesOf}
 use denote.Triple.Spec.{tripleOf}
 use denote.Triple.Table.{entered, cited}
 use Rattle.rules.specs.Outcome.{world}
-use Rattle.steps.specs.Kinds.{leaving}
-use Rattle.results.specs.Seen.{seen, seenOf, setupFrom}
+use Rattle.step.specs.Kinds.{leaving}
+use Rattle.capi_results.specs.Seen.{seen, seenOf, setupFrom}
 use Rattle.capi.proofs.PassOn.{OneKind}
 use Rattle.capi.proofs.ThinWhole.{Inner, thin-meets}
-use Rattle.results.proofs.setup.Symbol as inner-def
-use Rattle.results.proofs.setup.Symbol.{name as #inner}
-use Rattle.results.proofs.setup.Met as inner-thm
+use Rattle.capi_results.proofs.setup.Symbol as inner-def
+use Rattle.capi_results.proofs.setup.Symbol.{name as #inner}
+use Rattle.capi_results.proofs.setup.Met as inner-thm
 use Rattle.capi.proofs.sanirvoq_step_setup.Key.{name as #f}
 use Rattle.capi.proofs.sanirvoq_step_setup as f
 use Rattle.capi.proofs.sanirvoq_step_setup.Statement as stated
@@ -25,4 +25,4 @@ sanirvoq-step-setup-spec 𝓤 H 𝓜 𝓖 𝓡 =
     entered 𝓤 H (tripleOf 𝓤 H (𝓖 .A) f.signature (f.spec 𝓤 H (𝓖 .A) (𝓜 .mem) (𝓡 .run)))
     (tables 𝓤 H 𝓜 𝓡 code.env .C) (tables 𝓤 H 𝓜 𝓡 code.env .Λ) #f code.function (code.unfolded 𝓤 H 𝓜 𝓡)
     (thin-meets 𝓤 H (𝓖 .A) (givenOf 𝓤 H 𝓜 𝓖) φ #inner (tablesOf 𝓤 H 𝓜 (tables 𝓤 H 𝓜 𝓡 code.env))
-    (cited 𝓤 H (Inner φ 𝓤 H (𝓖 .A)) 𝓜 𝓡 code.env #inner inner-def.routine code.calls-results·setup (inner-thm.met 𝓤 H 𝓜 𝓖 𝓡)))
+    (cited 𝓤 H (Inner φ 𝓤 H (𝓖 .A)) 𝓜 𝓡 code.env #inner inner-def.routine code.calls-capi-results·setup (inner-thm.met 𝓤 H 𝓜 𝓖 𝓡)))

@@ -8,6 +8,9 @@ use Rattle.condition.proofs.Depth.{depth-le, add-full, add-short, add-f
 use Rattle.condition.proofs.add.Statement.{statement}
 use Rattle.condition.proofs.add.Tie as tie
 
+cast-i : tie.Need-cast-i
+cast-i c = search needs
+
 returns : tie.Need-returns
 returns c = add-full _ _ (c .if1 .taken)
 
@@ -25,9 +28,6 @@ returns-2 : tie.Need-returns-2
 returns-2 c =
     let b = c .before in
     add-short _ _ _ _ (b .before .before .before .if1 .left) (b .before .depth-of .ensures .0) (b .depth-after .ensures .0) (c .if2 .taken)
-
-cast-i : tie.Need-cast-i
-cast-i c = search needs
 
 mul-e : tie.Need-mul-e
 mul-e c = search needs
@@ -48,11 +48,11 @@ pub add-spec : {M : Type 1} → statement M
 add-spec =
     tie.close
     (tie.spec
+    cast-i
     returns
     depth-of-requires
     depth-after-requires
     returns-2
-    cast-i
     mul-e
     element-set-from-e
     add-more

@@ -83,8 +83,8 @@ returns c =
     let q = got-outside (read v) (start v .args .pid) (element v .letter) (element v .value) (stack v) _ (known v) (c .enum-told .given .1) in
     remains-out _ _ _ _ _ (omega arith) _ (o .6) true (v .before .before .before .before .before .before .before .loop-test .taken) q refl
 
-without-requires : tie.Need-without-requires Inv-loop μ-loop
-without-requires c κs = (omega arith, omega arith)
+stack-without-requires : tie.Need-stack-without-requires Inv-loop μ-loop
+stack-without-requires c κs = (omega arith, omega arith)
 
 sub-at : tie.Need-sub-at Inv-loop μ-loop
 sub-at c = omega arith
@@ -106,7 +106,7 @@ loop-again c =
     let v = c .before .before .before .before in
     let o = head v .loop .inv in
     let cells = head v .loop .cells in
-    let from = c .without .result in
+    let from = c .stack-without .result in
     let g = c .before .before .found .given .1 in
     let word : ℕ = c .before .before .found .given .0 .0 in
     let a = start v .args in
@@ -120,7 +120,7 @@ loop-again c =
       remains-more _ _ _ _ _ (omega arith) _ (o .6) false (v .before .before .before .before .before .before .before .loop-test .taken)
           (got-inside (read v) (a .pid) (e .letter) (e .value) (stack v) _ (known v) word g) _ refl
           (got-stack (read v) (a .pid) (e .letter) (e .value) (stack v) _ (known v) word g _ (drop from cells)
-          (c .without .ensures .2 cells (o .5)) (pushed cells from 17 (o .5) word (omega arith) (omega arith))),
+          (c .stack-without .ensures .2 cells (o .5)) (pushed cells from 17 (o .5) word (omega arith) (omega arith))),
     )
 
 top-at-requires-3 : tie.Need-top-at-requires-3 Inv-loop μ-loop
@@ -147,7 +147,7 @@ evaluate-spec =
     enum-known-found
     enum-told
     returns
-    without-requires
+    stack-without-requires
     sub-at
     mul-cells
     array-write-cells

@@ -2,7 +2,7 @@
 -- the others zeros. Assumes nothing.
 use mathlib.Core.Path.{_≡_, refl, sym, ap, _∙_}
 use mathlib.Core.Logic.{⊎-elim}
-use Prim.Native.Nat.{_+_, _-_, _≤_}
+use Prim.Native.Nat.{_+_, _-_, _<_, _≤_}
 use native.Mathlib.Nat.{mul-comm}
 use native.Mathlib.Omega.{arith}
 use borrow.Author.Needs.{needs}
@@ -18,23 +18,20 @@ use Rattle.memory.proofs.read.Tie as tie
 
 abbrev Inv-loop : tie.InvT-loop
 Inv-loop part sites plain at all kept from out₀ j₀ out j =
-    (j ≤ 9) × (j ≤ length part) × (from ≤ 4294967297) × (length sites ≡ 8) × (length plain ≡ 16) × (length out ≡ 9)
+    (j ≤ 9) × (j ≤ length part) × (from < 4294967296) × (length sites ≡ 8) × (length plain ≡ 16) × (length out ≡ 9)
     × (out ≡ filled (partAt 2 sites plain part from) (λ _. 0) j 9)
 
 abbrev μ-loop : tie.MeasureT-loop
 μ-loop part sites plain at all kept from out₀ j₀ out j = 9 - j
 
-near-requires : tie.Need-near-requires Inv-loop μ-loop
-near-requires c κs = search needs
-
 loop-holds : tie.Need-loop-holds Inv-loop μ-loop
-loop-holds c = (omega arith, omega arith, c .near .ensures .0, search needs, search needs, refl, fill-none _ 0 9)
+loop-holds c = (omega arith, omega arith, omega arith, search needs, search needs, refl, fill-none _ 0 9)
 
 returns : tie.Need-returns Inv-loop μ-loop
 unfolding partRead
 returns c =
     let l = c .before .before in
-    rw (← l .before .near .ensures .1 _ _, ← c .if1 .taken) (l .loop .inv .6)
+    rw (← c .if1 .taken) (l .loop .inv .6)
 
 add-i : tie.Need-add-i Inv-loop μ-loop
 add-i c = omega arith
@@ -71,9 +68,9 @@ loop-again c =
     let l = c .before .before .before .before in
     let o = l .loop in
     let i = o .inv in
-    let a = l .before .before .before .before .before .args in
+    let a = l .before .before .before .before .args in
     let s = now (a .sites) in
-    let at = l .before .near .result + o .j in
+    let at = a .at + o .j in
     let old = getD (now (a .part)) (o .j) 0 in
     let k = c .before .slot-of .result in
     let q = c .before .slot-of .ensures in
@@ -102,7 +99,7 @@ returns-2 : tie.Need-returns-2 Inv-loop μ-loop
 unfolding partRead
 returns-2 c =
     let o = c .before .loop .inv in
-    rw (← c .before .before .near .ensures .1 _ _) (o .6 ∙ fill-whole _ _ _ 9 (omega arith) ∙ sym (fill-whole _ _ _ 9 (omega arith)))
+    o .6 ∙ fill-whole _ _ _ 9 (omega arith) ∙ sym (fill-whole _ _ _ 9 (omega arith))
 
 pub read-spec : {M : Type 1} → statement M
 read-spec =
@@ -110,7 +107,6 @@ read-spec =
     (tie.spec
     Inv-loop
     μ-loop
-    near-requires
     loop-holds
     returns
     add-i

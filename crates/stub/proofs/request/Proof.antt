@@ -1,6 +1,6 @@
 -- `stub::request` meets its contract: it is the step of its kind, with the change made. Assumes nothing.
 use borrow.Author.Needs.{needs}
-use Rattle.steps.specs.Kinds.{stepBy}
+use Rattle.step.specs.Kinds.{stepBy}
 use Rattle.stub.proofs.request.Statement.{statement}
 use Rattle.stub.proofs.request.Tie as tie
 

@@ -1,6 +1,6 @@
 -- `stub::restart` meets its contract: it is the step of its kind, with the change made. Assumes nothing.
 use borrow.Author.Needs.{needs}
-use Rattle.steps.specs.Kinds.{stepBy}
+use Rattle.step.specs.Kinds.{stepBy}
 use Rattle.stub.proofs.restart.Statement.{statement}
 use Rattle.stub.proofs.restart.Tie as tie
 

@@ -1,4 +1,5 @@
--- `wire::bytes_of` meets its contract: each variant's bytes are what its writer ensures, padded as the definition pads. Assumes nothing.
+-- `wire::bytes_of` meets its contract: each variant's bytes are what its writer ensures, padded as the definition pads.
+-- Assumes nothing.
 use borrow.Author.Needs.{needs}
 use mathlib.Core.Path.{_≡_, sym, ap, _∙_}
 use mathlib.Core.List.{List, _∷_}
@@ -7,7 +8,7 @@ use lib.ListN.{length}
 use Rattle.common.specs.Bytes.{lowFirst, highFirst}
 use Rattle.common.specs.Text.{padded}
 use Rattle.common.proofs.Lists.{padded-whole}
-use Rattle.text.specs.Text.{reasonText, hexBytes, addressText}
+use Rattle.wire_text.specs.Text.{reasonText, hexBytes, addressText}
 use Rattle.wire.specs.Message.{bytes4, bytes9, typeOf, fieldsOf, bytesOf}
 use Rattle.wire.proofs.bytes_of.Statement.{statement}
 use Rattle.wire.proofs.bytes_of.Tie as tie
@@ -156,7 +157,8 @@ returns-9 : tie.Need-returns-9
 unfolding bytesOf typeOf fieldsOf reasonText
 returns-9 c =
     let t = c .before .reason-text in
-    c .with-text .ensures ∙ ap (λ (l : List ℕ). 1 ∷ l) (t .ensures) ∙ sym (ap bytesOf (c .before .before .before .m9 .given .1))
+    c .with-text .ensures ∙ ap (λ (l : List ℕ). 1 ∷ l) (t .ensures)
+    ∙ sym (ap bytesOf (c .before .before .before .m9 .given .1))
 
 returns-10 : tie.Need-returns-10
 unfolding bytesOf typeOf fieldsOf bytes9 padded
@@ -170,14 +172,16 @@ returns-12 : tie.Need-returns-12
 unfolding bytesOf typeOf fieldsOf addressText hexBytes lowFirst highFirst padded
 returns-12 c =
     let t = c .before .address-text in
-    c .with-text3 .ensures ∙ ap (λ (l : List ℕ). 7 ∷ l) (t .ensures) ∙ sym (ap bytesOf (c .before .before .before .m11 .given .1))
+    c .with-text3 .ensures ∙ ap (λ (l : List ℕ). 7 ∷ l) (t .ensures)
+    ∙ sym (ap bytesOf (c .before .before .before .m11 .given .1))
 
 returns-13 : tie.Need-returns-13
 unfolding bytesOf typeOf fieldsOf
 returns-13 c =
     let t = c .before .state-text in
     let z : length (t .result) ≡ 9 = t .ok .1 .0 .1 in
-    c .with-text4 .ensures ∙ ap (λ (l : List ℕ). 9 ∷ l) (sym (padded-whole 9 (t .result) z) ∙ ap (padded 9) (t .ensures))
+    c .with-text4 .ensures
+    ∙ ap (λ (l : List ℕ). 9 ∷ l) (sym (padded-whole 9 (t .result) z) ∙ ap (padded 9) (t .ensures))
     ∙ sym (ap bytesOf (c .before .before .before .m12 .given .1))
 
 returns-14 : tie.Need-returns-14

@@ -1,4 +1,5 @@
--- `wire::is_message` meets its contract: three variants have their tests, and every other is a message. Assumes nothing.
+-- `wire::is_message` meets its contract: three variants have their tests, and every other is a message. Assumes
+-- nothing.
 use borrow.Author.Needs.{needs}
 use mathlib.Core.Path.{_≡_, refl, sym, ap, _∙_}
 use mathlib.Core.Bool.{true}
@@ -9,14 +10,18 @@ use Rattle.common.proofs.Keys.{among-yes}
 use Rattle.common.proofs.Same.{true-or-false}
 use Rattle.wire.specs.Message.{isMessage}
 use Rattle.wire.specs.declared.Message.{Message}
-use Rattle.wire.specs.declared.Message.the-variants.{Tmget, Tmput, Tproc, Tstatus, Trnote, Tstop, Tstart, Tcondbreak, Rerr, Rmget, Rmput, Rproc, Rstatus, Rrnote, Rstop, Rstart, Rcondbreak}
+use Rattle.wire.specs.declared.Message.the-variants.{Tmget, Tmput, Tproc, Tstatus, Trnote}
+use Rattle.wire.specs.declared.Message.the-variants.{Tstop, Tstart, Tcondbreak, Rerr}
+use Rattle.wire.specs.declared.Message.the-variants.{Rmget, Rmput, Rproc, Rstatus}
+use Rattle.wire.specs.declared.Message.the-variants.{Rrnote, Rstop, Rstart, Rcondbreak}
 use Rattle.wire.proofs.Message.{the-type}
 use Rattle.wire.proofs.is_message.Statement.{statement}
 use Rattle.wire.proofs.is_message.Tie as tie
 
 -- every variant but the three; a tag is the variant's place
 others : (m : Message)
-    → among (2 ∷ 3 ∷ 4 ∷ 5 ∷ 6 ∷ 8 ∷ 9 ∷ 10 ∷ 11 ∷ 12 ∷ 13 ∷ 14 ∷ 15 ∷ 16 ∷ []) (tagOf the-type m) ≡ true → true ≡ isMessage m
+    → among (2 ∷ 3 ∷ 4 ∷ 5 ∷ 6 ∷ 8 ∷ 9 ∷ 10 ∷ 11 ∷ 12 ∷ 13 ∷ 14 ∷ 15 ∷ 16 ∷ []) (tagOf the-type m) ≡ true
+    → true ≡ isMessage m
 unfolding among isMessage
 others (Tmget addr n) e = true-or-false e
 others (Tmput addr n d) e = true-or-false e

@@ -15,17 +15,21 @@ use Rattle.wire.proofs.is_op.Tie as tie
 -- the keys of a `match` come in order
 no-letter : (x : ℕ) → (OneOf (98 ∷ 100 ∷ 107 ∷ 110 ∷ 112 ∷ []) x → ⊥) → among (codes "nkpbd") x ≡ false
 unfolding among codes
-no-letter x h = among-none (codes "nkpbd") (98 ∷ 100 ∷ 107 ∷ 110 ∷ 112 ∷ []) x (refl, (refl, (refl, (refl, (refl, tt))))) h
+no-letter x h =
+    among-none (codes "nkpbd") (98 ∷ 100 ∷ 107 ∷ 110 ∷ 112 ∷ []) x (refl, (refl, (refl, (refl, (refl, tt))))) h
 
 no-sign : (x : ℕ) → (OneOf (33 ∷ 38 ∷ 42 ∷ 61 ∷ 97 ∷ 111 ∷ []) x → ⊥) → among (codes "*&=!ao") x ≡ false
 unfolding among codes
-no-sign x h = among-none (codes "*&=!ao") (33 ∷ 38 ∷ 42 ∷ 61 ∷ 97 ∷ 111 ∷ []) x (refl, (refl, (refl, (refl, (refl, (refl, tt)))))) h
+no-sign x h =
+    among-none (codes "*&=!ao") (33 ∷ 38 ∷ 42 ∷ 61 ∷ 97 ∷ 111 ∷ []) x
+    (refl, (refl, (refl, (refl, (refl, (refl, tt)))))) h
 
 returns : tie.Need-returns
 unfolding isOp byKeys among codes
 returns c =
     let a = c .before .args in
-    at-keys (isOp (a .val)) true (98 ∷ 100 ∷ 107 ∷ 110 ∷ 112 ∷ []) (a .op) (refl, (refl, (refl, (refl, (refl, tt))))) (c .match .keys1)
+    at-keys (isOp (a .val)) true (98 ∷ 100 ∷ 107 ∷ 110 ∷ 112 ∷ []) (a .op)
+    (refl, (refl, (refl, (refl, (refl, tt))))) (c .match .keys1)
 
 returns-2 : tie.Need-returns-2
 unfolding isOp byKeys among codes

@@ -1,4 +1,5 @@
--- `wire::write` meets its contract: the two tests decide as the definition's do, and the copy fills the buffer. Assumes nothing.
+-- `wire::write` meets its contract: the two tests decide as the definition's do, and the copy fills the buffer. Assumes
+-- nothing.
 use borrow.Author.Needs.{needs}
 use mathlib.Core.Path.{_≡_, sym, ap, _∙_}
 use native.Mathlib.Omega.{arith}
@@ -6,6 +7,7 @@ use borrow.Author.Tests.{eq-eqb, ne-eqb, not-true, not-false}
 use lib.ListN.{length}
 use denote.Ref.{now}
 use Rattle.common.proofs.Lists.{copy-whole}
+use Rattle.common.specs.Numbers.{accepted}
 use Rattle.wire.specs.Codec.{written, writeOf}
 use Rattle.wire.proofs.write.Statement.{statement}
 use Rattle.wire.proofs.write.Tie as tie
@@ -45,7 +47,7 @@ returns-3 c =
     let bytes = b .bytes-of .result in
     let z : length l ≡ length bytes = omega arith in
     rw (eq-eqb _ 10 (q .before .if1 .left), sym (q .is-message .ensures) ∙ not-false _ (b .before .if2 .left))
-    (ap (written 0) (k .copy .ensures ∙ copy-whole l bytes z ∙ b .bytes-of .ensures))
+    (ap (written accepted) (k .copy .ensures ∙ copy-whole l bytes z ∙ b .bytes-of .ensures))
 
 pub write-spec : {M : Type 1} → statement M
 write-spec =

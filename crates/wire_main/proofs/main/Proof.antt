@@ -1,5 +1,5 @@
--- `wire_main::main` is safe and ends. The measure is the number of turns that are left; nothing has to hold from turn to turn.
--- Assumes nothing.
+-- `wire_main::main` is safe and ends. The measure is the number of turns that are left; nothing has to hold from turn
+-- to turn. Assumes nothing.
 use native.Mathlib.Omega.{arith}
 use Rattle.wire_main.proofs.main.Statement.{statement}
 use Rattle.wire_main.proofs.main.Tie as tie

@@ -1,0 +1,119 @@
+-- Laws of finding a breakpoint and of its slot. Assumes nothing.
+use mathlib.Core.Path.{_≡_, refl, sym, _∙_}
+use mathlib.Core.Bool.{Bool, true, false}
+use mathlib.Core.List.{List, [], _∷_}
+use Prim.Native.Nat.{ℕ, _+_, _-_, _*_, _%_, _<_, _≤_}
+use native.Mathlib.Omega.{arith}
+use borrow.Author.Tests.{eq-eqb, ne-eqb}
+use lib.Dec.{eqb}
+use lib.ListN.{length, getD}
+use mir.Val.{Val}
+use denote.Laws.{Is}
+use Rattle.common.proofs.Cases.{on-less, on-same}
+use Rattle.common.proofs.First.{first-map, first-within}
+use Rattle.common.proofs.Tab.{two-of}
+use Rattle.target_fit.proofs.Slots.{plain-byte, shape-at}
+use Rattle.target_fit.specs.Arrays.{siteOf, sitesOf}
+use Rattle.target_fit.specs.Fit.{entryAt}
+use Rattle.target_fit.specs.declared.Scan.{Scan}
+use Rattle.memory.specs.Head.{house}
+use Rattle.memory.specs.Overlay.{siteOver, slotOf}
+use Rattle.rules.specs.Breakpoint.{sites, isAt, breakpointAt}
+use Rattle.rules.proofs.Facts.{Shaped, Good}
+use Rattle.rules.proofs.FitFacts.{facts-of, two-each}
+use Rattle.rules.proofs.Found.{at-used, at-site}
+use Rattle.step_effect.specs.Ready.{Ready}
+use Rattle.rules.proofs.Slots.{slot-used}
+use Rattle.target.specs.Free.{isFree}
+use Rattle.target.specs.Fresh.{noEntry}
+use Rattle.target.specs.declared.Entry.{Entry}
+use Rattle.target.specs.declared.Target.{Target}
+use Rattle.target.proofs.Shape.{draft-shape, table-entries, table-draft, target-shape, target-table}
+use Rattle.target.proofs.Target as target
+use Rattle.breakpoint.specs.Breaks.{Findable, Removable}
+
+-- ---- a record of the code is shaped and, where it is fit, good
+
+pub shaped-of : (t : Target) (vs : List Val) → Is target.the-row t vs → Shaped t
+shaped-of t vs h =
+    let (_, u) = target-table t vs h in
+    let (_, d) = table-draft (t .table) _ u in
+    let draft = draft-shape (t .table .draft) _ d in
+    record {
+      entries = table-entries (t .table) _ u;
+      entry = λ k l. let s = shape-at t vs k h l in record { plain = s .plain; elements = s .elements; id = s .id };
+      draftElements = draft .elements;
+      draftId = draft .id;
+      processes = target-shape t vs h .processes;
+    }
+
+-- what a step starts from is a good record
+pub ready-good : (t : Target) (vs : List Val) (s : Scan) (mem regs : List ℕ) → Is target.the-row t vs → Ready house t s mem regs → Good house t mem
+ready-good t vs s mem regs h r = record { shaped = shaped-of t vs h; fit = r .fit; sized = r .memory }
+
+-- its breakpoints can be found
+pub ready-findable : (t : Target) (vs : List Val) (s : Scan) (mem regs : List ℕ) → Is target.the-row t vs → Ready house t s mem regs → Findable t s
+ready-findable t vs s mem regs h r =
+    let g = ready-good t vs s mem regs h r in
+    let f = facts-of t mem g in
+    record {
+      traps = r .sites;
+      even = omega (arith, f .baseFour);
+      placed = λ k l u. let e = f .used k (omega (arith, g .shaped .entries), u) in (e .even, e .low);
+    }
+
+-- ---- the breakpoint at an address is the slot that covers its offset
+
+module _ (base address : ℕ) (low : base ≤ address) (even : (address - base) % 2 ≡ 0) where
+  -- an entry's slot covers the offset where the entry is at the address
+  slot-at : (e : Entry) → (isFree e ≡ false → base ≤ e .site) → eqb (siteOver 2 (address - base)) (siteOf base e) ≡ isAt address e
+  unfolding siteOf siteOver isAt
+  slot-at e h = by (isFree e) refl
+    where
+      by : (b : Bool) → isFree e ≡ b → eqb (siteOver 2 (address - base)) (siteOf base e) ≡ isAt address e
+      by true u = rw u (ne-eqb (siteOver 2 (address - base)) 1 (λ p. omega arith))
+      by false u =
+          let l : base ≤ e .site = h u in
+          rw u (on-same (e .site) address (λ p. rw (eq-eqb (e .site) address p) (eq-eqb (siteOver 2 (address - base)) (e .site - base) (omega arith))) (λ n. rw (ne-eqb (e .site) address n) (ne-eqb (siteOver 2 (address - base)) (e .site - base) (λ p. n (omega arith)))))
+
+  -- so the first slot that covers the offset is the first breakpoint at the address
+  pub slot-found : (es : List Entry) → ((k : ℕ) → k < length es → isFree (entryAt es k) ≡ false → base ≤ entryAt es k .site)
+      → slotOf 2 (sitesOf base es) (address - base) ≡ breakpointAt es address
+  unfolding slotOf sitesOf breakpointAt
+  slot-found es h = first-map _ (siteOf base) (isAt address) es noEntry (λ k l. slot-at (entryAt es k) (h k l))
+
+module _ (t : Target) (s : Scan) (f : Findable t s) (address : ℕ) where
+  -- the slot of an even offset finds the breakpoint
+  pub at-even : t .base ≤ address → (address - t .base) % 2 ≡ 0
+      → slotOf 2 (s .sites) (address - t .base) ≡ breakpointAt (t .table .entries) address
+  at-even low even = rw (f .traps) (slot-found (t .base) address low even (t .table .entries) (λ k h u. f .placed k h u .1))
+
+  -- an address that no used entry can have is none's
+  pub at-none : length (t .table .entries) ≡ 8 → (t .base ≤ address → address % 2 ≡ 0 → ⊥) → 8 ≡ breakpointAt (t .table .entries) address
+  unfolding breakpointAt
+  at-none eight never =
+      let es = t .table .entries in
+      let k = breakpointAt es address in
+      on-less k 8
+      (λ h.
+      let l : k < length es = omega arith in
+      let e = f .placed k l (at-used es address l) in
+      absurd (never (omega (arith, e .1, at-site es address l)) (omega (arith, e .0, at-site es address l))))
+      (λ h. omega (arith, first-within (isAt address) es))
+
+-- ---- the scan's slot of a used entry: its site, as an offset into the window, and its two plain bytes
+
+module _ (t : Target) (s : Scan) (k : ℕ) (h : Shaped t) (r : Removable t s k) where
+  within : k < length (t .table .entries)
+  within = omega (arith, h .entries, r .below)
+
+  pub slot-site : getD (s .sites) k 0 ≡ entryAt (t .table .entries) k .site - t .base
+  slot-site = rw (r .traps) (slot-used (t .base) (t .table .entries) k within (r .used))
+
+  slot-byte : (i j : ℕ) → j < 2 → i ≡ k * 2 + j → getD (s .plain) i 0 ≡ getD (entryAt (t .table .entries) k .plain) j 0
+  slot-byte i j l e = rw (r .plain, e) (plain-byte (t .table .entries) (two-each t h) k j within l)
+
+  pub slot-plain : getD (s .plain) (2 * k) 0 ∷ getD (s .plain) (2 * k + 1) 0 ∷ [] ≡ entryAt (t .table .entries) k .plain
+  slot-plain =
+      rw (slot-byte (2 * k) 0 (omega arith) (omega arith), slot-byte (2 * k + 1) 1 (omega arith) (omega arith))
+      (sym (two-of (entryAt (t .table .entries) k .plain) 0 (two-each t h k within)))

@@ -1,0 +1,40 @@
+// Breakpoints: finding the one at an address, and putting its plain bytes back, over a fit record and its table as arrays.
+use target_fit::Scan;
+use target::Table;
+use target::Target;
+ghost use mathlib.Core.Path.{_≡_};
+ghost use mathlib.Core.List.{List};
+ghost use Prim.Native.Nat.{ℕ};
+ghost use Rattle.rules.specs.Outcome.{world};
+ghost use Rattle.step_effect.specs.Change.{withoutEntry};
+ghost use Rattle.rules.specs.Breakpoint.{breakpointAt, removed};
+ghost use Rattle.breakpoint.specs.Breaks.{Findable, Removable};
+
+// The index of the breakpoint at an address, or the number of entries.
+pub fn breakpoint_at(t: Target, s: Scan, address: u32) -> usize
+    requires { ⌜ Findable t s ⌝ }
+    ensures { λ r. ⌜ r ≡ breakpointAt (t .table .entries) address ⌝ }
+{
+    if address < t.base {
+        return Table::ENTRIES;
+    }
+    let at = address - t.base;
+    if at % 2 != 0 {
+        return Table::ENTRIES;
+    }
+    let sites = s.sites;
+    memory::slot_of(&sites, at as usize)
+}
+
+// Puts the plain bytes of the breakpoint at an index back.
+pub fn put_back(t: Target, s: Scan, mem: &mut [u8], k: usize)
+    requires { ⌜ Removable t s k ⌝ }
+    ensures {
+        λ _. ⌜ ((regs : List ℕ)
+        → world (withoutEntry t k) (now (mem .exit)) regs ≡ removed (world t (now (mem .entry)) regs) k) ⌝
+    }
+{
+    let sites = s.sites;
+    let plain = s.plain;
+    memory::lay(mem, sites[k] as usize, plain[2 * k], plain[2 * k + 1]);
+}

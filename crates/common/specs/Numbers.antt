@@ -1,0 +1,34 @@
+-- 01, "Steps and numbers": the numbers of its table, each with the words of its row. A later request's number joins here.
+use Prim.Native.Nat.{ℕ}
+
+-- "accepted"
+abbrev pub accepted : ℕ
+accepted = 0
+
+-- "setup rule broken (setup only)"
+abbrev pub brokenSetup : ℕ
+brokenSetup = 1
+
+-- "memory is not M bytes, register area not 136 for each process, request or reply not 10, saved block not 136"
+abbrev pub wrongSize : ℕ
+wrongSize = 2
+
+-- "record not fit (not setup)"
+abbrev pub notFit : ℕ
+notFit = 3
+
+-- "event names an unlisted pid"
+abbrev pub unlistedPid : ℕ
+unlistedPid = 4
+
+-- "trap or state event for a Stopped process; state event with value 8"
+abbrev pub stoppedProcess : ℕ
+stoppedProcess = 5
+
+-- "trap whose pc is at no site"
+abbrev pub noSite : ℕ
+noSite = 6
+
+-- "message writer given no message, message reader given bytes of none"
+abbrev pub noMessage : ℕ
+noMessage = 7

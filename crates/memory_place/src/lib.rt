@@ -1,0 +1,73 @@
+// Where the bytes that a request names lie, and the stretch that an address names. Sums do not wrap.
+use memory::Place;
+use target::Process;
+ghost use mathlib.Core.Path.{_≡_};
+ghost use lib.ListN.{length, take, drop};
+ghost use Rattle.memory.specs.Place.{placeOf, isSite, stretchOf};
+
+// Where the n bytes from an address lie.
+pub fn place_of(base: u32, size: u32, address: u32, n: u8) -> Place
+    ensures { λ r. ⌜ r ≡ placeOf base size address n ⌝ }
+{
+    let end = address as u64 + n as u64;
+    if end <= Process::BLOCK as u64 {
+        return Place::Registers;
+    }
+    if address < base {
+        return Place::Nowhere;
+    }
+    let last = base as u64 + size as u64;
+    if last < end {
+        return Place::Nowhere;
+    }
+    Place::Window
+}
+
+// Whether a trap can stand at an address: it is even, and both bytes there lie in the window.
+pub fn is_site(base: u32, size: usize, address: u32) -> bool
+    ensures { λ r. ⌜ r ≡ isSite base size address ⌝ }
+{
+    if address % 2 != 0 {
+        return false;
+    }
+    if address < base {
+        return false;
+    }
+    let at = (address - base) as usize;
+    at + 2 <= size
+}
+
+// The part of n elements at an offset, as far as the slice reaches.
+fn part_of<'a>(s: &'a [u8], at: usize, n: usize) -> &'a [u8]
+    ensures { λ r. ⌜ now r ≡ take n (drop at (now (s .entry))) ⌝ }
+{
+    if s.len() <= at {
+        return &s[0..0];
+    }
+    if s.len() - at < n {
+        return &s[at..];
+    }
+    &s[at..at + n]
+}
+
+// The stretch that an address names: a part of the register block or of the window.
+pub fn stretch<'a>(block: &'a [u8], mem: &'a [u8], base: u32, address: u32, n: u8) -> &'a [u8]
+    ensures {
+        λ r. ⌜ now r ≡ stretchOf (placeOf base (length (now (mem .entry))) address n) (now (block .entry))
+        (now (mem .entry)) base address n ⌝
+    }
+{
+    let from = address as usize;
+    let count = n as usize;
+    if from + count <= Process::BLOCK {
+        return part_of(block, from, count);
+    }
+    if address < base {
+        return &mem[0..0];
+    }
+    let start = from - base as usize;
+    if mem.len() < start + count {
+        return &mem[0..0];
+    }
+    part_of(mem, start, count)
+}

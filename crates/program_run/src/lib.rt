@@ -1,0 +1,271 @@
+// Runs steps that are encoded as raw bytes, over a record and lent buffers.
+use rules::Answer;
+use step_effect::Done;
+use target::Target;
+ghost use mathlib.Core.Path.{_≡_};
+ghost use Prim.Native.Nat.{_≤_};
+ghost use lib.ListN.{length, replicate};
+ghost use Rattle.memory.specs.Head.{house};
+ghost use Rattle.rules.specs.Outcome.{world, answerBytes};
+ghost use Rattle.rules.specs.Step.{requestOf, restartOf};
+ghost use Rattle.program_run.specs.Encoding.{messageBytes, stepMost, kindOf, bodyOf, stepOn};
+ghost use Rattle.rules.specs.Outcome.{shownWith};
+ghost use Rattle.program_run.specs.Written.{Writes, Steps, RunLeaves};
+
+// The bytes of a request and of a reply, of a pid and of a saved block, the most that a step writes, and what another
+// kind writes.
+const MESSAGE: usize = 10;
+
+const PID: usize = 4;
+
+const BLOCK: usize = 136;
+
+const STEP_MOST: usize = 1 + MESSAGE;
+
+const OTHER_KIND: u8 = 0xff;
+
+// The kinds of step.
+enum Kind {
+    Request,
+    Trap,
+    Schedule,
+    State,
+    Restart,
+}
+
+// What the byte before a step says.
+enum KindByte {
+    Listed(Kind),
+    Unlisted,
+}
+
+// Why a run stopped. Full: the output is too short for what the steps of so much input may write, and none was taken.
+pub enum End {
+    UsedUp,
+    Cut,
+    OtherKind,
+    Full,
+}
+
+// The record afterwards, how many bytes of input the steps took and of output were filled, and why the run stopped.
+pub struct Ran {
+    pub target: Target,
+    pub used: usize,
+    pub filled: usize,
+    pub end: End,
+}
+
+// One step's record and how many bytes it wrote.
+struct Stepped {
+    target: Target,
+    filled: usize,
+}
+
+fn kind_of(byte: u8) -> KindByte
+    ensures { λ r. ⌜ r ≡ kindOf byte ⌝ }
+{
+    match byte {
+        1 => KindByte::Listed(Kind::Request),
+        2 => KindByte::Listed(Kind::Trap),
+        3 => KindByte::Listed(Kind::Schedule),
+        4 => KindByte::Listed(Kind::State),
+        5 => KindByte::Listed(Kind::Restart),
+        _ => KindByte::Unlisted,
+    }
+}
+
+// How many bytes follow a kind.
+fn body_of(kind: Kind) -> usize
+    ensures { λ r. ⌜ r ≡ bodyOf kind ⌝ }
+{
+    match kind {
+        Kind::Request => MESSAGE,
+        Kind::Trap => PID + BLOCK,
+        Kind::Schedule => PID + BLOCK,
+        Kind::State => PID + 1,
+        Kind::Restart => 0,
+    }
+}
+
+// Writes a number and, where it is 0, a reply.
+fn show_reply(number: u8, reply: [u8; MESSAGE], out: &mut [u8]) -> usize
+    requires { ⌜ stepMost ≤ length (now out) ⌝ }
+    ensures { λ r. ⌜ Writes (shownWith number reply) r (now (out .entry)) (now (out .exit)) ⌝ }
+{
+    out[0] = number;
+    if number != 0 {
+        return 1;
+    }
+    common::copy(&mut out[1..STEP_MOST], &reply);
+    STEP_MOST
+}
+
+// Writes a number and, where it is 0, the answer of an event.
+fn show_answer(number: u8, answer: Answer, out: &mut [u8]) -> usize
+    requires { ⌜ stepMost ≤ length (now out) ⌝ }
+    ensures { λ r. ⌜ Writes (shownWith number (answerBytes answer)) r (now (out .entry)) (now (out .exit)) ⌝ }
+{
+    out[0] = number;
+    if number != 0 {
+        return 1;
+    }
+    match answer {
+        Answer::Nothing => 1,
+        Answer::Stop(id) => {
+            out[1] = 1;
+            out[2] = id;
+            3
+        }
+        Answer::Pass(x, y) => {
+            out[1] = 2;
+            out[2] = x;
+            out[3] = y;
+            4
+        }
+        Answer::Yes => {
+            out[1] = 1;
+            2
+        }
+        Answer::No => {
+            out[1] = 0;
+            2
+        }
+    }
+}
+
+// A request, and its reply written.
+fn request(t: Target, mem: &mut [u8], regs: &mut [u8], body: &[u8], out: &mut [u8]) -> Stepped
+    requires { ⌜ stepMost ≤ length (now out) ⌝ }
+    ensures { λ r. ⌜ Steps
+        (requestOf house (world t (now (mem .entry)) (now (regs .entry)))
+        (now (body .entry)) (replicate messageBytes 0))
+        r (now (mem .exit)) (now (regs .exit)) (now (out .entry)) (now (out .exit)) ⌝ }
+{
+    let mut reply: [u8; MESSAGE] = [0; MESSAGE];
+    let done = stub::request(t, mem, regs, body, &mut reply);
+    let filled = show_reply(done.number, reply, out);
+    let after = done.target;
+    Stepped {
+        target: after,
+        filled,
+    }
+}
+
+// A restart, and its reply written.
+fn restart(t: Target, mem: &mut [u8], regs: &mut [u8], out: &mut [u8]) -> Stepped
+    requires { ⌜ stepMost ≤ length (now out) ⌝ }
+    ensures { λ r. ⌜ Steps
+        (restartOf house (world t (now (mem .entry)) (now (regs .entry))) (replicate messageBytes 0))
+        r (now (mem .exit)) (now (regs .exit)) (now (out .entry)) (now (out .exit)) ⌝ }
+{
+    let mut reply: [u8; MESSAGE] = [0; MESSAGE];
+    let done = stub::restart(t, mem, regs, &mut reply);
+    let filled = show_reply(done.number, reply, out);
+    let after = done.target;
+    Stepped {
+        target: after,
+        filled,
+    }
+}
+
+// What an event gave, and its answer written.
+fn answered(done: Done, out: &mut [u8]) -> Stepped
+    requires { ⌜ stepMost ≤ length (now out) ⌝ }
+    ensures { λ r. ⌜ (r .target ≡ done .target)
+        × Writes (shownWith (done .number) (answerBytes (done .answer))) (r .filled)
+        (now (out .entry)) (now (out .exit)) ⌝ }
+{
+    let answer = done.answer;
+    let filled = show_answer(done.number, answer, out);
+    let after = done.target;
+    Stepped {
+        target: after,
+        filled,
+    }
+}
+
+// One step, and what it writes.
+fn step(
+    t: Target,
+    mem: &mut [u8],
+    regs: &mut [u8],
+    kind: Kind,
+    body: &[u8],
+    out: &mut [u8],
+) -> Stepped
+    requires { ⌜ (length (now body) ≡ bodyOf kind) × (stepMost ≤ length (now out)) ⌝ }
+    ensures { λ r. ⌜ Steps
+        (stepOn (world t (now (mem .entry)) (now (regs .entry))) kind (now (body .entry)))
+        r (now (mem .exit)) (now (regs .exit)) (now (out .entry)) (now (out .exit)) ⌝ }
+{
+    match kind {
+        Kind::Request => request(t, mem, regs, body, out),
+        Kind::Trap => {
+            let pid = common::word_at(body, 0);
+            let done = stub::trap(t, mem, regs, pid, &body[PID..]);
+            answered(done, out)
+        }
+        Kind::Schedule => {
+            let pid = common::word_at(body, 0);
+            let done = stub::schedule(t, mem, regs, pid, &body[PID..]);
+            answered(done, out)
+        }
+        Kind::State => {
+            let pid = common::word_at(body, 0);
+            let done = stub::state(t, mem, regs, pid, body[PID]);
+            answered(done, out)
+        }
+        Kind::Restart => restart(t, mem, regs, out),
+    }
+}
+
+fn ended(target: Target, used: usize, filled: usize, end: End) -> Ran
+    ensures { λ r. ⌜ r ≡ record { target = target; used = used; filled = filled; end = end } ⌝ }
+{
+    Ran {
+        target: target,
+        used,
+        filled,
+        end,
+    }
+}
+
+// Runs the steps of the input, one after the other, until it is used up or ends inside a step, or another kind comes.
+// With less output than eleven bytes for each byte of input it takes no step, so that it never stops halfway for want
+// of room.
+pub fn run(t: Target, mem: &mut [u8], regs: &mut [u8], input: &[u8], output: &mut [u8]) -> Ran
+    ensures { λ r. ⌜ RunLeaves
+        (world t (now (mem .entry)) (now (regs .entry))) (now (input .entry))
+        r (now (mem .exit)) (now (regs .exit)) (now (output .entry)) (now (output .exit)) ⌝ }
+{
+    if output.len() / STEP_MOST < input.len() {
+        return ended(t, 0, 0, End::Full);
+    }
+    let mut u = t;
+    let mut used: usize = 0;
+    let mut filled: usize = 0;
+    while used < input.len() {
+        let byte = kind_of(input[used]);
+        let KindByte::Listed(kind) = byte else {
+            output[filled] = OTHER_KIND;
+            return ended(u, used, filled + 1, End::OtherKind);
+        };
+        let n = body_of(kind);
+        let from = used + 1;
+        if input.len() - from < n {
+            return ended(u, used, filled, End::Cut);
+        }
+        let done = step(
+            u,
+            mem,
+            regs,
+            kind,
+            &input[from..from + n],
+            &mut output[filled..],
+        );
+        u = done.target;
+        filled += done.filled;
+        used = from + n;
+    }
+    ended(u, used, filled, End::UsedUp)
+}

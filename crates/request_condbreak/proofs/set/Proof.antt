@@ -1,0 +1,109 @@
+-- `request_condbreak::set` meets its contract: its tests are the definition's, in their order. A free site lies in the
+-- window. Assumes nothing.
+use mathlib.Core.Path.{_≡_, sym, _∙_}
+use mathlib.Core.Bool.{true}
+use native.Mathlib.Omega.{arith}
+use borrow.Author.Needs.{needs}
+use borrow.Author.Tests.{eq-eqb, ne-eqb, not-true, not-false}
+use denote.Ref.{now}
+use Rattle.condition.specs.Depth.{wellFormed}
+use Rattle.rules.specs.Condition.{inHand, siteFree, setBreakpoint}
+use Rattle.breakpoint.proofs.Laws.{ready-findable}
+use Rattle.rules.specs.Outcome.{World, world}
+use Rattle.request_condbreak.proofs.Laws.{site-low, site-high}
+use Rattle.request_condbreak.proofs.set.Statement.{statement}
+use Rattle.request_condbreak.proofs.set.Tie as tie
+
+-- the world and the address, from where the site is tested
+abbrev start : tie.After-site-free → tie.Start
+start f = f .before .before .before .before .before .before .before
+
+abbrev world-at : tie.After-site-free → World
+world-at f = let a = start f .args in world (a .t) (now (a .mem)) (now (a .regs))
+
+-- what the first two tests know
+held : (f : tie.After-site-free) → inHand (world-at f) ≡ true
+unfolding inHand
+held f = rw (ne-eqb _ 0 (f .before .if1 .left))
+
+tested : (f : tie.After-site-free) → siteFree (world-at f) (start f .args .val) ≡ f .site-free .result
+tested f = sym (f .site-free .ensures _ _)
+
+free : (e : tie.Else2) → siteFree (world-at (e .before)) (start (e .before) .args .val) ≡ true
+free e = tested (e .before) ∙ not-false _ (e .if2 .left)
+
+fail-requires : tie.Need-fail-requires
+fail-requires c κs = search needs
+
+returns : tie.Need-returns
+unfolding setBreakpoint inHand
+returns c = rw (eq-eqb _ 0 (c .before .if1 .taken)) (c .fail .ensures _ _ _)
+
+site-free-requires : tie.Need-site-free-requires
+site-free-requires c κs =
+    let s = c .before .before .before .before .before .before in
+    ready-findable (s .args .t) _ _ _ _ (s .good .0) (s .pre)
+
+fail-requires-2 : tie.Need-fail-requires-2
+fail-requires-2 c κs = search needs
+
+returns-2 : tie.Need-returns-2
+unfolding setBreakpoint
+returns-2 c =
+    let f = c .before .before in
+    rw (held f, tested f ∙ not-true _ (c .before .if2 .taken)) (c .fail2 .ensures _ _ _)
+
+depth-of-requires : tie.Need-depth-of-requires
+depth-of-requires c κs = search needs
+
+fail-requires-3 : tie.Need-fail-requires-3
+fail-requires-3 c κs = search needs
+
+returns-3 : tie.Need-returns-3
+unfolding setBreakpoint wellFormed
+returns-3 c =
+    let d = c .before .before in
+    let e = d .before .before in
+    rw (held (e .before), free e, ne-eqb _ 1 (λ h. c .before .if3 .taken (d .depth-of .ensures .0 ∙ h))) (c .fail3 .ensures _ _ _)
+
+plant-requires : tie.Need-plant-requires
+plant-requires c κs =
+    let e = c .before .before .before .before in
+    let f = e .before in
+    let w = world-at f in
+    let s = start f in
+    let low = site-low w (s .args .val) (free e) in
+    record {
+      traps = s .pre .sites;
+      plain = s .pre .plain;
+      low = low;
+      high = omega (arith, site-high w (s .args .val) (free e), s .pre .memory);
+    }
+
+same-length : tie.Need-same-length
+same-length c = search needs
+
+returns-4 : tie.Need-returns-4
+unfolding setBreakpoint wellFormed
+returns-4 c =
+    let p = c .before .before in
+    let t = p .before .before in
+    let d = t .before in
+    let e = d .before .before in
+    rw (held (e .before), free e, eq-eqb _ 1 (sym (d .depth-of .ensures .0) ∙ t .if3 .left)) (p .plant .ensures _)
+
+pub set-spec : {M : Type 1} → statement M
+set-spec =
+    tie.close
+    (tie.spec
+    fail-requires
+    returns
+    site-free-requires
+    fail-requires-2
+    returns-2
+    depth-of-requires
+    fail-requires-3
+    returns-3
+    plant-requires
+    same-length
+    returns-4)

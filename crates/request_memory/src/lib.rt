@@ -1,0 +1,198 @@
+// Tmget and Tmput, over a fit record and its table as arrays.
+use target_fit::Lookup;
+use target_fit::Scan;
+use memory::Place;
+use step_effect::Change;
+use step_effect::Served;
+use target::Process;
+use target::Target;
+use wire_text::Reason;
+use wire::Data4;
+use wire::Data9;
+use wire::Message;
+ghost use mathlib.Core.Path.{_≡_};
+ghost use mathlib.Core.List.{List};
+ghost use mathlib.Core.Bool.{true};
+ghost use Prim.Native.Nat.{ℕ, _+_, _*_, _≤_};
+ghost use lib.ListN.{length};
+ghost use Rattle.memory.specs.Head.{house};
+ghost use Rattle.target.specs.Limits.{blockSize, maxProcesses};
+ghost use Rattle.target_fit.specs.Fit.{currentFit};
+ghost use Rattle.memory.specs.declared.Place.the-variants as place;
+ghost use Rattle.wire.specs.Message.{bytesOf};
+ghost use Rattle.wire.specs.declared.Message.the-variants as message;
+ghost use Rattle.rules.specs.declared.Answer.the-variants.{Nothing};
+ghost use Rattle.rules.specs.Outcome.{world, outcome};
+ghost use Rattle.step_effect.specs.Ready.{Ready, servedOutcome};
+ghost use Rattle.rules.specs.Request.{data9Of, putTo, mget as mgetOf, mput as mputOf};
+ghost use Rattle.request_memory.specs.Access.{Blocks, blockOf, blockPart, blockReply};
+
+// The index of the current process's block, or why it may not be used.
+pub enum Block {
+    At(usize),
+    Refused(Reason),
+}
+
+fn block_of(t: Target) -> Block
+    requires { ⌜ t .count ≤ maxProcesses ⌝ }
+    requires { ⌜ currentFit (t .selected) (t .current) (t .processes) (t .count) ≡ true ⌝ }
+    ensures { λ r. ⌜ r ≡ blockOf t ⌝ }
+{
+    if t.selected == 0 {
+        return Block::Refused(Reason::Pid);
+    }
+    let found = target_fit::find(t, t.current);
+    let Lookup::At(i, p) = found else {
+        return Block::Refused(Reason::Notstop);
+    };
+    if p.state == Process::STOPPED {
+        return Block::At(i);
+    }
+    Block::Refused(Reason::Notstop)
+}
+
+// The bytes of a block, none where it may not be used.
+fn block_part<'a>(regs: &'a [u8], block: Block) -> &'a [u8]
+    requires { ⌜ ((i : ℕ) → block ≡ Block.At i → blockSize * i + blockSize ≤ length (now regs)) ⌝ }
+    ensures { λ r. ⌜ now r ≡ blockPart block (now (regs .entry)) ⌝ }
+{
+    match block {
+        Block::At(i) => {
+            let from = Process::BLOCK * i;
+            &regs[from..from + Process::BLOCK]
+        }
+        Block::Refused(_) => &regs[0..0],
+    }
+}
+
+fn rerr(reason: Reason) -> [u8; 10]
+    ensures { λ r. ⌜ r ≡ bytesOf (message.Rerr reason) ⌝ }
+{
+    wire::bytes_of(Message::Rerr { reason })
+}
+
+fn rmget(b: [u8; 9]) -> [u8; 10]
+    ensures { λ r. ⌜ r ≡ bytesOf (message.Rmget (data9Of b)) ⌝ }
+{
+    wire::bytes_of(Message::Rmget {
+        data: Data9 {
+            b0: b[0],
+            b1: b[1],
+            b2: b[2],
+            b3: b[3],
+            b4: b[4],
+            b5: b[5],
+            b6: b[6],
+            b7: b[7],
+            b8: b[8],
+        },
+    })
+}
+
+// The reply to a read of a part of a block, or why it may not be used.
+fn block_reply(block: Block, part: &[u8]) -> [u8; 10]
+    ensures { λ r. ⌜ r ≡ blockReply block (now (part .entry)) ⌝ }
+{
+    match block {
+        Block::Refused(reason) => rerr(reason),
+        Block::At(_) => {
+            let mut bytes: [u8; 9] = [0; 9];
+            common::copy(&mut bytes[..], part);
+            rmget(bytes)
+        }
+    }
+}
+
+// Tmget: the stretch that the address names is a part of the block or of the window, read as it is or under traps.
+pub fn mget<'a>(t: Target, s: Scan, mem: &'a [u8], regs: &'a [u8], addr: u32, n: u8) -> [u8; 10]
+    requires { ⌜ Ready house t s (now mem) (now regs) ⌝ }
+    ensures {
+        λ r. ⌜ outcome 0 Nothing (world t (now (mem .entry)) (now (regs .entry))) r
+        ≡ mgetOf (world t (now (mem .entry)) (now (regs .entry))) addr n ⌝
+    }
+{
+    if n == 0 {
+        return rmget([0; 9]);
+    }
+    let place = memory_place::place_of(t.base, t.size, addr, n);
+    let block = block_of(t);
+    let part = memory_place::stretch(block_part(regs, block), mem, t.base, addr, n);
+    match place {
+        Place::Registers => block_reply(block, part),
+        Place::Window => {
+            let sites = s.sites;
+            let plain = s.plain;
+            rmget(memory::read(part, &sites, &plain, addr - t.base))
+        }
+        Place::Nowhere => rerr(Reason::Inval),
+    }
+}
+
+// A write below 136, of the current process's block; register zero is not written.
+fn put_registers(t: Target, regs: &mut [u8], addr: u32, bytes: &[u8]) -> [u8; 10]
+    requires { ⌜ Blocks t (now regs) × (addr + length (now bytes) ≤ blockSize) ⌝ }
+    ensures {
+        λ r. ⌜ ((mem : List ℕ) → outcome 0 Nothing (world t mem (now (regs .exit))) r
+        ≡ putTo place.Registers (world t mem (now (regs .entry))) addr (now (bytes .entry))) ⌝
+    }
+{
+    if addr <= 3 {
+        return rerr(Reason::Inval);
+    }
+    let block = block_of(t);
+    let i = match block {
+        Block::Refused(reason) => return rerr(reason),
+        Block::At(i) => i,
+    };
+    let from = Process::BLOCK * i + addr as usize;
+    let end = from + bytes.len();
+    common::copy(&mut regs[from..end], bytes);
+    wire::bytes_of(Message::Rmput)
+}
+
+// Tmput.
+pub fn mput(
+    t: Target,
+    s: Scan,
+    mem: &mut [u8],
+    regs: &mut [u8],
+    addr: u32,
+    n: u8,
+    d: Data4,
+) -> Served
+    requires { ⌜ Ready house t s (now mem) (now regs) ⌝ }
+    requires { ⌜ n ≤ 4 ⌝ }
+    ensures {
+        λ r. ⌜ servedOutcome t r (now (mem .exit)) (now (regs .exit))
+        ≡ mputOf (world t (now (mem .entry)) (now (regs .entry))) addr n d ⌝
+    }
+{
+    let rmput = wire::bytes_of(Message::Rmput);
+    if n == 0 {
+        return Served::with(Change::Same, rmput);
+    }
+    let bytes = [d.b0, d.b1, d.b2, d.b3];
+    let count = n as usize;
+    let place = memory_place::place_of(t.base, t.size, addr, n);
+    match place {
+        Place::Registers => {
+            Served::with(Change::Same, put_registers(t, regs, addr, &bytes[..count]))
+        }
+        Place::Window => {
+            let sites = s.sites;
+            let mut plain = s.plain;
+            let at = (addr - t.base) as usize;
+            memory::write(mem, &sites, &mut plain, at, &bytes[..count]);
+            let old = s.plain;
+            if common::equal(&old, &plain) {
+                return Served::with(Change::Same, rmput);
+            }
+            Served {
+                change: Change::Plain,
+                plain: plain,
+                bytes: rmput,
+            }
+        }
+        Place::Nowhere => Served::with(Change::Same, rerr(Reason::Inval)),
+    }
+}

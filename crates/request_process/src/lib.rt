@@ -1,0 +1,117 @@
+// Tproc, Tstatus, Trnote, Tstop and Tstart, over a fit record.
+use target_fit::Lookup;
+use target_fit::Scan;
+use step_effect::Change;
+use step_effect::Served;
+use target::Process;
+use target::Table;
+use target::Target;
+use wire_text::Reason;
+use wire::Message;
+ghost use mathlib.Core.Path.{_≡_};
+ghost use mathlib.Core.List.{List};
+ghost use Prim.Native.Nat.{ℕ, _≤_};
+ghost use Rattle.memory.specs.Head.{house};
+ghost use Rattle.target.specs.declared.Target.{Target};
+ghost use Rattle.rules.specs.Outcome.{world, error};
+ghost use Rattle.step_effect.specs.Ready.{Ready, servedOutcome};
+ghost use Rattle.rules.specs.Request.{proc as procOf, status as statusOf, rnote as rnoteOf};
+ghost use Rattle.rules.specs.Request.{stop as stopOf, start as startOf};
+ghost use Rattle.target.specs.Limits.{maxProcesses};
+ghost use Rattle.wire_text.specs.declared.Reason.the-variants as reason;
+
+fn no_process() -> Served
+    ensures {
+        λ r. ⌜ ((t : Target) (mem regs : List ℕ) → servedOutcome t r mem regs ≡ error reason.Pid (world t mem regs)) ⌝
+    }
+{
+    Served::with(
+        Change::Same,
+        wire::bytes_of(Message::Rerr {
+            reason: Reason::Pid,
+        }),
+    )
+}
+
+// Tproc: makes a process current.
+pub fn proc(t: Target, pid: u32) -> Served
+    requires { ⌜ t .count ≤ maxProcesses ⌝ }
+    ensures { λ r. ⌜ ((mem regs : List ℕ) → servedOutcome t r mem regs ≡ procOf (world t mem regs) pid) ⌝ }
+{
+    let found = target_fit::find(t, pid);
+    let Lookup::At(_, p) = found else {
+        return no_process();
+    };
+    Served::with(
+        Change::Current(pid),
+        wire::bytes_of(Message::Rproc { addr: p.address }),
+    )
+}
+
+// Tstatus: answers the state of a process.
+pub fn status(t: Target, pid: u32) -> Served
+    requires { ⌜ t .count ≤ maxProcesses ⌝ }
+    ensures { λ r. ⌜ ((mem regs : List ℕ) → servedOutcome t r mem regs ≡ statusOf (world t mem regs) pid) ⌝ }
+{
+    let found = target_fit::find(t, pid);
+    let Lookup::At(_, p) = found else {
+        return no_process();
+    };
+    Served::with(
+        Change::Same,
+        wire::bytes_of(Message::Rstatus { state: p.state }),
+    )
+}
+
+// Trnote: answers nine zeros.
+pub fn rnote(t: Target, pid: u32) -> Served
+    requires { ⌜ t .count ≤ maxProcesses ⌝ }
+    ensures { λ r. ⌜ ((mem regs : List ℕ) → servedOutcome t r mem regs ≡ rnoteOf (world t mem regs) pid) ⌝ }
+{
+    let found = target_fit::find(t, pid);
+    let Lookup::At(_, _) = found else {
+        return no_process();
+    };
+    Served::with(Change::Same, wire::bytes_of(Message::Rrnote))
+}
+
+// Tstop: marks a process that is not Stopped.
+pub fn stop(t: Target, pid: u32) -> Served
+    requires { ⌜ t .count ≤ maxProcesses ⌝ }
+    ensures { λ r. ⌜ ((mem regs : List ℕ) → servedOutcome t r mem regs ≡ stopOf (world t mem regs) pid) ⌝ }
+{
+    let found = target_fit::find(t, pid);
+    let Lookup::At(i, p) = found else {
+        return no_process();
+    };
+    let bytes = wire::bytes_of(Message::Rstop);
+    if p.state == Process::STOPPED {
+        return Served::with(Change::Same, bytes);
+    }
+    Served::with(Change::State(i, p.state, 1), bytes)
+}
+
+// Tstart: clears the mark; a Stopped process becomes Ready, and a breakpoint at its saved pc is removed.
+pub fn start<'a>(t: Target, s: Scan, mem: &'a mut [u8], regs: &'a [u8], pid: u32) -> Served
+    requires { ⌜ Ready house t s (now mem) (now regs) ⌝ }
+    ensures {
+        λ r. ⌜ servedOutcome t r (now (mem .exit)) (now (regs .entry))
+        ≡ startOf (world t (now (mem .entry)) (now (regs .entry))) pid ⌝
+    }
+{
+    let found = target_fit::find(t, pid);
+    let Lookup::At(i, p) = found else {
+        return no_process();
+    };
+    let bytes = wire::bytes_of(Message::Rstart);
+    if p.state != Process::STOPPED {
+        return Served::with(Change::State(i, p.state, 0), bytes);
+    }
+    let pc = common::word_at(regs, Process::BLOCK * i + Process::PC);
+    let k = breakpoint::breakpoint_at(t, s, pc);
+    if Table::ENTRIES <= k {
+        return Served::with(Change::State(i, Process::READY, 0), bytes);
+    }
+    breakpoint::put_back(t, s, mem, k);
+    Served::with(Change::Start(i, k), bytes)
+}

@@ -1,0 +1,216 @@
+-- Requests: after each, the record and its memory follow the book.
+use mathlib.Core.Path.{_≡_, refl, sym, ap, _∙_}
+use mathlib.Core.Bool.{Bool, false, cond, true}
+use mathlib.Core.List.{List, []}
+use Prim.Native.Nat.{ℕ, _-_, _≤_, _<_}
+use native.Mathlib.Omega.{arith}
+use borrow.Author.Tests.{ltb-true, ltb-false, lt-ltb, not-true}
+use lib.Dec.{ltb, eqb}
+use lib.ListN.{length, take}
+use Rattle.common.specs.First.{firstOf}
+use Rattle.target_fit.specs.Fit.{processAt, entryOf}
+use Rattle.memory.specs.Head.{Head}
+use Rattle.memory.specs.Place.{placeOf}
+use Rattle.memory.specs.declared.Place.the-variants.{Window}
+use Rattle.common.proofs.Cases.{on-test, choose}
+use Rattle.request_parse.specs.declared.Parsed.{Parsed}
+use Rattle.target.specs.declared.Target.{Target}
+use Rattle.wire.specs.Message.{bytes4, bytesOf, typeOf}
+use Rattle.wire.specs.declared.Data4.{Data4}
+use Rattle.wire.specs.declared.Message.{Message}
+use Rattle.rules.specs.Outcome.{World, world, Outcome, replied, error}
+use Rattle.rules.specs.Record.{withDraft, ready, indexOf, setState, isStopped, blockAt, pcOf}
+use Rattle.rules.specs.Breakpoint.{breakpointAt, planted, removed, removedAt}
+use Rattle.rules.specs.Request.{windowWritten}
+use Rattle.rules.specs.Book.{Book, withBreakpoints, withStopped, removing, others, intoWindow, inWindow}
+use Rattle.rules.specs.Book.{bookWrite, bookStart}
+use Rattle.rules.specs.Step.{Setup}
+use Rattle.rules.specs.Book.{bookServed, bookRequest, Pending, withPending, joins, sets, bookCondbreak}
+use Rattle.rules.specs.Step.{isAccepted}
+use Rattle.rules.proofs.FitFacts.{facts-of}
+use Rattle.rules.proofs.Agree.{dressed, Follows, Agree, pendingOf, Drafted}
+use Rattle.rules.proofs.Laid.{same-place, in-window}
+use Rattle.rules.proofs.Halted.{pid-place, among-others, among-gone}
+use Rattle.rules.proofs.Found.{used-at, at-site, at-first, used-id, id-is}
+use Rattle.rules.proofs.KeptProcesses.{mark-none}
+use Rattle.rules.proofs.KeptWorld.{good-state}
+use Rattle.rules.proofs.Moves.{move-current, its-state, move-named, move-kept, move-removed, move-none}
+use Rattle.rules.proofs.Moves.{move-written, drafted-none}
+use Rattle.rules.proofs.Moves.{move-draft, move-planted}
+use mathlib.Core.Option.{Option, none, some}
+use native.Mathlib.Numerals.{add-one}
+use lib.Seq.{take-suc-set}
+use Rattle.condition.specs.Add.{roomFor, withElement}
+use Rattle.condition.specs.declared.Room.the-variants.{Fits}
+use Rattle.target.specs.Fresh.{closedDraft}
+use Rattle.target.specs.declared.Draft.{Draft}
+use Rattle.target.specs.declared.Element.{Element}
+use Rattle.rules.specs.Condition.{dropped, inHand, begun}
+use Rattle.rules.proofs.KeptDraft.{room-fits}
+use Rattle.rules.proofs.Outcomes.{RequestCase, RequestOutcome, serving, failing, got, put, aside, current}
+use Rattle.rules.proofs.Outcomes.{told, noted, halted, marked, started}
+use Rattle.rules.proofs.Outcomes.{cleared, begins, plants, removes, adds}
+
+-- an element that fits joins both
+joins-both : (d : Draft) (o : Option Pending) (e : Element) → d .count < length (d .elements) → Drafted d o
+    → Drafted (withElement d e) (joins o e)
+unfolding withElement joins pendingOf
+joins-both d o e room v h =
+    rw (v h, add-one (d .count), take-suc-set (d .elements) (d .count) e room)
+
+-- the breakpoint at an address goes from the table and from the book
+module _ {head : Head} (s : Setup) (b : Book) (t : Target) (mem regs : List ℕ) (a : Agree head s b t mem) where
+  -- at an address that is no breakpoint's
+  left-none : (address : ℕ) → length (t .table .entries) ≤ breakpointAt (t .table .entries) address
+      → Follows s (withBreakpoints b (removing (λ x. eqb (x .site) address) (b .breakpoints))) t mem
+  unfolding dressed
+  left-none address h =
+      let es = t .table .entries in
+      let size : length es ≡ 8 = a .good .shaped .entries in
+      move-none s b t mem (a .follows) (a .good) regs (λ x. x .site) address
+      (λ j u q. let below : j < length es = omega (arith, u .0) in omega (arith, at-first es address j below (u .1) q))
+
+  -- at a breakpoint's
+  left-one : (address : ℕ) → breakpointAt (t .table .entries) address < length (t .table .entries)
+      → let o = removed (world t mem regs) (breakpointAt (t .table .entries) address) in
+      Follows s (withBreakpoints b (removing (λ x. eqb (x .site) address) (b .breakpoints))) (o .target) (o .mem)
+  unfolding dressed
+  left-one address h =
+      let es = t .table .entries in
+      move-removed s b t mem (a .follows) (a .good) regs (λ x. x .site) address _
+      (used-at es address (a .good .shaped .entries) h)
+      (at-site es address h) (facts-of t mem (a .good) .sitesDiffer)
+
+  left-at : (address : ℕ)
+      → let o = removedAt (world t mem regs) address in
+      Follows s (withBreakpoints b (removing (λ x. eqb (x .site) address) (b .breakpoints))) (o .target) (o .mem)
+  unfolding removedAt
+  left-at address =
+      let P : World → Type 0 =
+      λ o. Follows s (withBreakpoints b (removing (λ x. eqb (x .site) address) (b .breakpoints))) (o .target)
+      (o .mem) in
+      choose P (ltb (breakpointAt (t .table .entries) address) (length (t .table .entries)))
+      (λ e. left-one address (ltb-true _ _ e)) (λ e. left-none address (ltb-false _ _ e))
+
+module _ {head : Head} (s : Setup) (b : Book) (t : Target) (mem regs : List ℕ) (a : Agree head s b t mem) where
+  abbrev w : World
+  w = world t mem regs
+
+  abbrev v : Follows s b t mem
+  v = a .follows
+
+  -- ---- Tmput
+
+  -- into the window goes what the book writes
+  after-put : (addr n : ℕ) (d : Data4) → 0 < n → placeOf (t .base) (t .size) addr n ≡ Window
+      → let o = windowWritten w addr (take n (bytes4 d)) in Follows s (bookWrite s b addr n d) (o .target) (o .mem)
+  unfolding bookWrite inWindow intoWindow
+  after-put addr n d h p =
+      rw (lt-ltb 0 n h, same-place s b t mem a addr n ∙ p, ap (λ (k : ℕ). addr - k) (sym (v .base)))
+      (move-written s b t mem v (a .good) regs addr (take n (bytes4 d)))
+
+  -- and elsewhere nothing
+  after-aside : (addr n : ℕ) (d : Data4) → (0 < n → placeOf (t .base) (t .size) addr n ≡ Window → ⊥)
+      → Follows s (bookWrite s b addr n d) t mem
+  unfolding bookWrite
+  after-aside addr n d out =
+      on-test (inWindow s addr n) (λ e. let i = in-window s b t mem a addr n e in
+      absurd (out (i .0) (i .1))) (λ e. rw e v)
+
+  -- ---- Tstop and Tstart
+
+  -- its block is the one that the book looks at
+  its-block : (pid : ℕ) → blockAt regs (firstOf (eqb pid) (take (s .count) (s .pids))) ≡ blockAt regs (indexOf t pid)
+  its-block pid = ap (λ l. blockAt regs (firstOf (eqb pid) l)) (sym (v .pids))
+      ∙ ap (blockAt regs) (pid-place (t .processes) (t .count) pid)
+
+  -- a Stopped process is Ready, and then the breakpoint at its saved pc goes
+  after-started : (pid : ℕ) → indexOf t pid < t .count → isStopped (processAt (t .processes) (indexOf t pid)) ≡ true
+      → let o = removedAt (world (setState t (indexOf t pid) ready 0) mem regs) (pcOf (blockAt regs (indexOf t pid))) in
+      Follows s (bookStart s b regs pid) (o .target) (o .mem)
+  unfolding bookStart withStopped
+  after-started pid h e =
+      rw (sym (its-state s b t mem v (a .good) pid h) ∙ e, its-block pid)
+      (left-at s (withStopped b (others pid (b .stopped))) (setState t (indexOf t pid) ready 0) mem regs
+      (record {
+        good = good-state w (a .good) (indexOf t pid) ready 0 h (mark-none ready);
+        follows = move-named s b t mem v (a .good) pid h ready 0 (others pid (b .stopped))
+            (sym (among-gone pid (b .stopped)))
+            (λ y n. among-others pid y (b .stopped) n);
+      })
+      (pcOf (blockAt regs (indexOf t pid))))
+
+  after-cleared : (pid : ℕ) → indexOf t pid < t .count → isStopped (processAt (t .processes) (indexOf t pid)) ≡ false
+      → Follows s (bookStart s b regs pid)
+      (setState t (indexOf t pid) (processAt (t .processes) (indexOf t pid) .state) 0) mem
+  unfolding bookStart isStopped
+  after-cleared pid h e =
+      rw (sym (its-state s b t mem v (a .good) pid h) ∙ e) (move-kept s b t mem v (a .good) pid h _ 0 refl)
+
+  -- ---- Tcondbreak
+
+  -- what is in hand is dropped, or not: the book keeps its draft
+  after-unless : (d : Bool) → let o = cond d (dropped w) w in Follows s b (o .target) (o .mem)
+  unfolding dropped withDraft withPending
+  after-unless true = move-draft s b t mem v closedDraft (b .draft) (drafted-none (b .draft))
+  after-unless false = v
+
+  -- n
+  after-begun : (val : ℕ)
+      → Follows s (withPending b (some (record { id = val; elements = [] }))) (withDraft t (begun val)) mem
+  unfolding begun pendingOf
+  after-begun val = move-draft s b t mem v (begun val) _ (λ h. refl)
+
+  -- an element
+  after-joined : (e : Element) → roomFor (t .table .draft) e ≡ Fits
+      → Follows s (withPending b (joins (b .draft) e)) (withDraft t (withElement (t .table .draft) e)) mem
+  after-joined e q =
+      let room : t .table .draft .count < length (t .table .draft .elements) =
+      omega (arith, room-fits (t .table .draft) e q .0, a .good .shaped .draftElements) in
+      move-draft s b t mem v _ (joins (b .draft) e) (joins-both (t .table .draft) (b .draft) e room (v .draft))
+
+  -- b
+  after-planted : (val : ℕ) → inHand w ≡ true
+      → let o = planted head w val in
+      Follows s (withBreakpoints (withPending b none) (sets (b .draft) val (b .breakpoints))) (o .target) (o .mem)
+  unfolding inHand
+  after-planted val h = move-planted s b t mem v (a .good) regs val (not-true _ h)
+
+  -- d
+  after-deleted : (val : ℕ) → val ≤ 255 → entryOf (t .table .entries) val < length (t .table .entries)
+      → let o = removed w (entryOf (t .table .entries) val) in
+      Follows s (withBreakpoints b (removing (λ x. eqb (x .id) val) (b .breakpoints))) (o .target) (o .mem)
+  unfolding dressed
+  after-deleted val low below =
+      let es = t .table .entries in
+      let small : val < 256 = omega arith in
+      move-removed s b t mem v (a .good) regs (λ x. x .id) val _ (used-id es val (a .good .shaped .entries) small below)
+      (id-is es val small below) (facts-of t mem (a .good) .idsDiffer)
+
+  -- ---- every request
+
+  after-left : {p : Parsed} {q : Message} {o : World} → RequestCase head w p q o
+      → Follows s (bookRequest s b regs p) (o .target) (o .mem)
+  unfolding bookRequest bookServed bookCondbreak isStopped
+  after-left (got d h) = v
+  after-left (put h p) = after-put _ _ _ h p
+  after-left (aside r h) = after-aside _ _ _ h
+  after-left (current {pid = pid} h) = move-current s b t mem v 1 pid
+  after-left (told x) = v
+  after-left noted = v
+  after-left halted = v
+  after-left (marked h e) = move-kept s b t mem v (a .good) _ h _ 1 refl
+  after-left (started h e) = after-started _ h e
+  after-left (cleared h e) = after-cleared _ h e
+  after-left (begins n x y z) = rw n (after-begun _)
+  after-left (plants n b′ h x y) = rw (n, b′) (after-planted _ h)
+  after-left (removes n b′ d x y) = rw (n, b′, d) (after-deleted _ x y)
+  after-left (adds n b′ d h r) = rw (n, b′, d) (after-joined _ r)
+
+  -- an accepted one feeds the book, and one that is refused does not
+  pub after-served : {d : Bool} {p : Parsed} {o : Outcome} → RequestOutcome w d (RequestCase head w p) o
+      → Follows s (cond (isAccepted (o .number) (o .reply)) (bookRequest s b regs p) b) (o .after .target)
+      (o .after .mem)
+  unfolding isAccepted replied error bytesOf typeOf
+  after-served (serving m x h e l) = rw e (after-left l)
+  after-served {d = d} (failing r) = after-unless d

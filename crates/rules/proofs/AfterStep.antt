@@ -1,0 +1,69 @@
+-- Events and every step: after each, the record and its memory follow the book.
+use mathlib.Core.Path.{_≡_, refl, sym, _∙_}
+use mathlib.Core.Bool.{false}
+use mathlib.Core.List.{List, [], _∷_}
+use Prim.Native.Nat.{ℕ, _<_}
+use lib.Dec.{eqb}
+use Rattle.target_fit.specs.Fit.{stopped}
+use Rattle.memory.specs.Head.{Head}
+use Rattle.target.specs.declared.Target.{Target}
+use Rattle.rules.specs.Outcome.{World, world, answered, refused, replied}
+use Rattle.rules.specs.Record.{indexOf, stopWith}
+use Rattle.rules.specs.Event.{restart}
+use Rattle.rules.specs.Step.{Step, request, trapEvent, scheduleEvent, stateEvent, restartStep, stepOf}
+use Rattle.rules.specs.Book.{Book, withStopped, bookAnswer, fed}
+use Rattle.rules.specs.Step.{Setup, isAccepted}
+use Rattle.rules.proofs.Agree.{Follows, Agree}
+use Rattle.rules.proofs.Halted.{among-more, among-here}
+use Rattle.rules.proofs.Moves.{move-named, move-kept, move-restart}
+use Rattle.rules.specs.declared.Answer.{Answer}
+use Rattle.rules.specs.declared.Answer.the-variants.{Nothing}
+use Rattle.rules.specs.Step.{regsOf, bufferOf}
+use Rattle.rules.proofs.Outcomes.{EventCase, caught, released, yielded, ran, became, by-step}
+use Rattle.rules.proofs.AfterRequest.{after-served}
+
+-- a step that is refused by its number leaves the book
+unfed : (s : Setup) (b : Book) (e : Step) (n : ℕ) (reply : List ℕ) → eqb n 0 ≡ false → fed s b e n Nothing reply ≡ b
+unfolding fed isAccepted
+unfed s b (request r bytes buffer) n reply h = rw h
+unfed s b (trapEvent r pid block) n reply h = rw h
+unfed s b (scheduleEvent r pid block) n reply h = rw h
+unfed s b (stateEvent r pid value) n reply h = refl
+unfed s b (restartStep r buffer) n reply h = rw h
+
+module _ {head : Head} (s : Setup) (b : Book) (t : Target) (mem regs : List ℕ) (a : Agree head s b t mem) where
+  abbrev w : World
+  w = world t mem regs
+
+  abbrev v : Follows s b t mem
+  v = a .follows
+
+  -- a process Stopped in the record and in the book
+  now-stopped : (pid : ℕ) (block : List ℕ) → indexOf t pid < t .count
+      → let o = stopWith w (indexOf t pid) block in Follows s (withStopped b (pid ∷ b .stopped)) (o .target) (o .mem)
+  unfolding stopWith
+  now-stopped pid block h =
+      move-named s b t mem v (a .good) pid h stopped 0 (pid ∷ b .stopped) (sym (among-here pid (b .stopped)))
+      (λ y n. among-more pid y (b .stopped) n)
+
+  -- an accepted event
+  after-heard : {e : Step} {x : Answer} {o : World} → EventCase head w e x o
+      → Follows s (fed s b e 0 x []) (o .target) (o .mem)
+  unfolding fed bookAnswer withStopped
+  after-heard (caught {block = block} h k e) = now-stopped _ block h
+  after-heard (released k e) = v
+  after-heard (yielded {block = block} h) = now-stopped _ block h
+  after-heard ran = v
+  after-heard (became h e n) = move-kept s b t mem v (a .good) _ h _ _ (n ∙ sym e)
+
+-- every step
+pub after-step : {head : Head} (s : Setup) (b : Book) (t : Target) (mem : List ℕ) → Agree head s b t mem → (e : Step)
+    → let o = stepOf head t mem e in
+    Follows s (fed s b e (o .number) (o .answer) (o .reply)) (o .after .target) (o .after .mem)
+unfolding fed refused answered restart replied
+after-step s b t mem a =
+    by-step t mem (λ e o. Follows s (fed s b e (o .number) (o .answer) (o .reply)) (o .after .target) (o .after .mem))
+    (λ e n h three. rw (unfed s b e n (bufferOf e) h) (a .follows))
+    (λ regs bytes reply o x. after-served s b t mem regs a x)
+    (λ e x o h. after-heard s b t mem (regsOf e) a h)
+    (λ regs reply. move-restart s b t mem (a .follows) regs)

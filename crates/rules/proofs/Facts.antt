@@ -1,0 +1,76 @@
+-- What a fit record is, as facts: the tests of `fitOf` one by one; and the shape that every record of the code has.
+use mathlib.Core.Path.{_≡_}
+use mathlib.Core.Bool.{true, false}
+use Prim.Native.Nat.{ℕ, _+_, _-_, _%_, _≤_, _<_}
+use mathlib.Core.List.{List}
+use lib.ListN.{length, getD}
+use Rattle.condition.specs.Depth.{wellFormed}
+use Rattle.target_fit.specs.Fit.{fitOf, processAt, entryAt, markFit, currentFit, draftFit}
+use Rattle.memory.specs.Head.{Head}
+use Rattle.target.specs.Free.{isFree}
+use Rattle.target.specs.declared.Entry.{Entry}
+use Rattle.target.specs.declared.Target.{Target}
+
+-- ---- the shape: lengths of arrays, and ids below 256, which the types of the code give
+
+pub record ShapedEntry (e : Entry) : Type 0 where
+  pub plain : length (e .plain) ≡ 2
+  pub elements : length (e .elements) ≡ 16
+  pub id : e .id < 256
+
+pub record Shaped (t : Target) : Type 0 where
+  pub entries : length (t .table .entries) ≡ 8
+  pub entry : (k : ℕ) → k < 8 → ShapedEntry (entryAt (t .table .entries) k)
+  pub draftElements : length (t .table .draft .elements) ≡ 16
+  pub draftId : t .table .draft .id < 256
+  pub processes : length (t .processes) ≡ 4
+
+-- ---- a used entry
+
+-- entry k of a table is used
+abbrev pub UsedIn : List Entry → ℕ → Type 0
+UsedIn es k = (k < 8) × (isFree (entryAt es k) ≡ false)
+
+-- used entries have keys of their own
+abbrev pub Differ : (Entry → ℕ) → List Entry → Type 0
+Differ key es = (j k : ℕ) → UsedIn es j → UsedIn es k → key (entryAt es j) ≡ key (entryAt es k) → j ≡ k
+
+abbrev pub Used : Target → ℕ → Type 0
+Used t k = UsedIn (t .table .entries) k
+
+pub record UsedFacts (h : Head) (t : Target) (mem : List ℕ) (e : Entry) : Type 0 where
+  pub one : e .used ≡ 1
+  pub even : e .site % 2 ≡ 0
+  pub low : t .base ≤ e .site
+  pub high : e .site - t .base + 2 ≤ length mem
+  pub trap0 : getD mem (e .site - t .base) 0 ≡ h .first
+  pub trap1 : getD mem (e .site - t .base + 1) 0 ≡ h .second
+  pub formed : wellFormed (e .elements) (e .count) ≡ true
+
+-- ---- the record
+
+pub record Facts (h : Head) (t : Target) (mem : List ℕ) : Type 0 where
+  pub sizeFour : t .size % 4 ≡ 0
+  pub sizeLow : 4 ≤ t .size
+  pub sizeHigh : t .size ≤ 65536
+  pub baseFour : t .base % 4 ≡ 0
+  pub baseLow : 4096 ≤ t .base
+  pub end : t .base + t .size ≤ 4294967296
+  pub some : 1 ≤ t .count
+  pub few : t .count ≤ 4
+  pub pids : (i : ℕ) → i < t .count → 0 < processAt (t .processes) i .pid
+  pub pidsDiffer : (i j : ℕ) → i < t .count → j < t .count
+      → processAt (t .processes) i .pid ≡ processAt (t .processes) j .pid → i ≡ j
+  pub used : (k : ℕ) → Used t k → UsedFacts h t mem (entryAt (t .table .entries) k)
+  pub idsDiffer : Differ (λ e. e .id) (t .table .entries)
+  pub sitesDiffer : Differ (λ e. e .site) (t .table .entries)
+  pub marks : (i : ℕ) → i < t .count
+      → markFit (processAt (t .processes) i .state) (processAt (t .processes) i .wanted) ≡ true
+  pub current : currentFit (t .selected) (t .current) (t .processes) (t .count) ≡ true
+  pub draft : draftFit (t .table .draft) (t .table .entries) ≡ true
+
+-- a record that the steps keep: shaped, fit, and with its memory
+pub record Good (h : Head) (t : Target) (mem : List ℕ) : Type 0 where
+  pub shaped : Shaped t
+  pub fit : fitOf h t mem ≡ true
+  pub sized : length mem ≡ t .size

@@ -1,0 +1,136 @@
+-- A good record stays good when its table changes: the condition in hand, a breakpoint made or removed, bytes
+-- written. Assumes nothing.
+use mathlib.Core.Path.{_≡_, refl, sym, _∙_}
+use mathlib.Core.Bool.{true, false}
+use mathlib.Core.List.{List, [], _∷_}
+use Prim.Native.Nat.{ℕ, _-_, _<_}
+use native.Mathlib.Omega.{arith}
+use lib.ListN.{length, set, replicate, length-set, length-take, length-drop, getD-replicate}
+use Rattle.common.proofs.Same.{true-or-false}
+use Rattle.target_fit.specs.Arrays.{siteOf, sitesOf}
+use Rattle.target_fit.specs.Fit.{entryAt}
+use Rattle.memory.specs.Head.{Head, trapBytes}
+use Rattle.memory.specs.Overlay.{noSite, laidOver}
+use Rattle.memory.specs.Write.{memAfter, plainAfter}
+use Rattle.memory.proofs.Site.{no-site-free}
+use Rattle.memory.proofs.Slots.{free-slots}
+use Rattle.memory.proofs.Bytes.{length-laid, length-mem-after, length-plain-after}
+use Rattle.memory_laws.specs.Laws.{planted-written, no-traps-planted}
+use Rattle.memory_laws.specs.Planting.{planted-more, removed-planted}
+use Rattle.target.specs.Free.{isFree}
+use Rattle.target.specs.Fresh.{noEntry, freshEntry, freshTable, closedDraft}
+use Rattle.target.specs.declared.Draft.{Draft}
+use Rattle.target.specs.declared.Entry.{Entry}
+use Rattle.target.specs.declared.Target.{Target}
+use Rattle.rules.specs.Breakpoint.{sites, plains}
+use Rattle.rules.proofs.Facts.{ShapedEntry, Used, Good}
+use Rattle.rules.specs.Record.{withTable, withDraft, withEntries}
+use Rattle.rules.specs.Request.{withPlains}
+use Rattle.rules.proofs.Slots.{site-used, sites-set, length-with, with-at, sites-with}
+use Rattle.rules.proofs.FitFacts.{eight-sites, slot-used, slot-free, slot-only, sixteen-plains}
+use Rattle.rules.proofs.Rows.{Row, stored-at, rows-set, rows-with, rows-fresh}
+use Rattle.rules.proofs.Parts.{DraftParts, TableParts, parts-of, good-table}
+use Rattle.rules.proofs.KeptDraft.{closed-draft, freed-draft, with-draft}
+
+-- a fresh entry has its shape
+fresh-shaped : ShapedEntry freshEntry
+fresh-shaped = record { plain = refl; elements = refl; id = omega arith }
+
+-- ---- a fresh table, over any memory
+
+pub fresh-parts : {head : Head} (base n : ℕ) (mem : List ℕ) → length mem ≡ n → TableParts head base n freshTable mem
+unfolding sitesOf siteOf isFree
+fresh-parts {head} base n mem size = record {
+  eight = refl;
+  entry = λ k h. rw (getD-replicate 8 k freshEntry noEntry h) fresh-shaped;
+  draft = closed-draft (freshTable .entries);
+  rows = rows-fresh base n;
+  planted = no-traps-planted (trapBytes head) (replicate 8 noSite) mem (free-slots 2 (omega arith) 8);
+  sized = size;
+}
+
+module _ {head : Head} (t : Target) (mem : List ℕ) (g : Good head t mem) where
+  abbrev es : List Entry
+  es = t .table .entries
+
+  -- the parts of the table as it was
+  old : TableParts head (t .base) (t .size) (t .table) mem
+  old = parts-of t mem g .table
+
+  -- ---- the condition in hand
+
+  pub good-draft : (d : Draft) → DraftParts d (t .table .entries) → Good head (withDraft t d) mem
+  unfolding withDraft
+  good-draft d p = good-table t mem g _ mem (record {
+    eight = old .eight;
+    entry = old .entry;
+    draft = p;
+    rows = old .rows;
+    planted = old .planted;
+    sized = old .sized;
+  })
+
+  -- ---- an entry stored
+
+  -- the shapes of the entries
+  stored : (k : ℕ) (e : Entry) → k < 8 → ShapedEntry e → (j : ℕ) → j < 8 → ShapedEntry (entryAt (set es k e) j)
+  stored k e h s j l = stored-at es (old .eight) k e h ShapedEntry j (λ q. s) (λ n. old .entry j l)
+
+  -- a breakpoint is made in a free entry, and nothing is in hand
+  pub good-made : (k : ℕ) (e : Entry) → k < 8 → isFree (entryAt (t .table .entries) k) ≡ true → ShapedEntry e
+      → isFree e ≡ false
+      → Row (t .base) (t .size) e
+      → ((j : ℕ) → Used t j → entryAt (t .table .entries) j .id ≡ e .id → ⊥)
+      → ((j : ℕ) → Used t j → entryAt (t .table .entries) j .site ≡ e .site → ⊥)
+      → Good head (withTable t (record { entries = set (t .table .entries) k e; draft = closedDraft }))
+      (laidOver (trapBytes head) ((e .site - t .base) ∷ []) mem)
+  good-made k e h free shape used row id site = good-table t mem g _ _ (record {
+    eight = length-set es k e ∙ old .eight;
+    entry = stored k e h shape;
+    draft = closed-draft _;
+    rows = rows-set es (old .eight) k e h (t .base) (t .size) (old .rows)
+        (λ u. row) (λ u j v n. id j v) (λ u j v n. site j v);
+    planted = rw (sites-set (t .base) es k e, site-used (t .base) e used)
+        (planted-more (trapBytes head) (sites t) mem k (e .site - t .base)
+        (λ i q. no-site-free 2 (omega arith) i (q ∙ slot-free t mem g k h free)) (old .planted));
+    sized = length-laid (trapBytes head) _ mem ∙ old .sized;
+  })
+
+  -- a breakpoint is removed, its plain bytes put back
+  pub good-freed : (k : ℕ) → Used t k
+      → Good head (withEntries t (set (t .table .entries) k freshEntry))
+      (laidOver (entryAt (t .table .entries) k .plain) ((entryAt (t .table .entries) k .site - t .base) ∷ []) mem)
+  unfolding withEntries siteOf isFree
+  good-freed k (h, u) = good-table t mem g _ _ (record {
+    eight = length-set es k freshEntry ∙ old .eight;
+    entry = stored k freshEntry h fresh-shaped;
+    draft = freed-draft es (old .eight) (t .table .draft) (old .draft) k h;
+    rows = rows-set es (old .eight) k freshEntry h (t .base) (t .size) (old .rows)
+        (λ e. true-or-false (sym e)) (λ e. true-or-false (sym e)) (λ e. true-or-false (sym e));
+    planted = rw (sites-set (t .base) es k freshEntry) (rw (slot-used t mem g k (h, u)) at
+        (removed-planted 2 (sites t) mem (entryAt es k .plain) k noSite (old .entry k h .plain)
+        (omega (arith, eight-sites t mem g))
+        (λ j l. slot-only t mem g j k (omega (arith, eight-sites t mem g)) (h, u)) (no-site-free 2 (omega arith))
+        (trapBytes head) refl (old .planted)));
+    sized = length-laid (entryAt es k .plain) _ mem ∙ old .sized;
+  })
+
+  -- ---- bytes written to the window
+
+  pub good-written : (at : ℕ) (bytes : List ℕ)
+      → Good head (withEntries t (withPlains (t .table .entries) (plainAfter 2 (sites t) (plains t) at bytes)))
+      (memAfter 2 (sites t) mem at bytes)
+  unfolding withEntries
+  good-written at bytes = good-table t mem g _ _ (record {
+    eight = length-with es _ ∙ old .eight;
+    entry = λ k h.
+        let b : List ℕ = plainAfter 2 (sites t) (plains t) at bytes in
+        let n : length b ≡ 16 = length-plain-after 2 (sites t) (plains t) at bytes ∙ sixteen-plains t mem g in
+        let o = old .entry k h in
+        rw (with-at es b k (omega (arith, old .eight)))
+        (record { plain = simp (length-take, length-drop) (omega arith); elements = o .elements; id = o .id });
+    draft = with-draft es (old .eight) (t .table .draft) (old .draft) _;
+    rows = rows-with es (old .eight) _ (t .base) (t .size) (old .rows);
+    planted = rw (sites-with (t .base) es) (planted-written (trapBytes head) (sites t) mem at bytes (old .planted));
+    sized = length-mem-after 2 (sites t) mem at bytes ∙ old .sized;
+  })

@@ -1,0 +1,116 @@
+-- A good world stays good: each kind of change that a step makes to the record and to memory. Assumes nothing.
+use mathlib.Core.Path.{_≡_, refl}
+use mathlib.Core.Bool.{true, false}
+use mathlib.Core.List.{List}
+use Prim.Native.Nat.{ℕ, _+_, _-_, _≤_, _<_}
+use native.Mathlib.Omega.{arith}
+use borrow.Author.Tests.{ltb-true, not-true}
+use lib.Dec.{leb, ltb, eqb}
+use lib.ListN.{length}
+use Rattle.common.proofs.Cases.{choose}
+use Rattle.common.proofs.Same.{parts}
+use Rattle.condition.specs.Depth.{wellFormed}
+use Rattle.condition.specs.Add.{roomFor, withElement}
+use Rattle.condition.specs.declared.Room.the-variants.{Fits}
+use Rattle.target_fit.specs.Fit.{stopped, entryOf, markFit}
+use Rattle.memory.specs.Head.{Head}
+use Rattle.memory.specs.Place.{isSite}
+use Rattle.target.specs.Free.{isFree, firstFree}
+use Rattle.target.specs.declared.Element.{Element}
+use Rattle.rules.specs.Outcome.{World}
+use Rattle.rules.specs.Record.{withDraft, setState, stopWith}
+use Rattle.rules.specs.Breakpoint.{breakpointAt, madeEntry, planted, removed, removedAt}
+use Rattle.rules.specs.Condition.{dropped, inHand, begun, siteFree}
+use Rattle.rules.specs.Request.{windowWritten}
+use Rattle.rules.proofs.Facts.{Used, Good}
+use Rattle.rules.proofs.Found.{free-found, used-at, at-first, id-first}
+use Rattle.rules.proofs.Parts.{parts-of, good-processes}
+use Rattle.rules.proofs.KeptProcesses.{mark-none, state-parts}
+use Rattle.rules.proofs.KeptDraft.{closed-draft, hand-of, begun-draft, joined-draft}
+use Rattle.rules.proofs.KeptTable.{good-draft, good-made, good-freed, good-written}
+
+-- the record is good with its memory
+abbrev pub GoodWorld : Head → World → Type 0
+GoodWorld head w = Good head (w .target) (w .mem)
+
+module _ {head : Head} (w : World) (g : GoodWorld head w) where
+  -- ---- the condition in hand
+
+  -- it is dropped
+  pub good-dropped : GoodWorld head (dropped w)
+  unfolding dropped
+  good-dropped = good-draft (w .target) (w .mem) g _ (closed-draft _)
+
+  -- one is begun, with an id that is free, where an entry is
+  pub good-begun : (val : ℕ) → ltb 255 val ≡ false
+      → ltb (entryOf (w .target .table .entries) val) (length (w .target .table .entries)) ≡ false
+      → leb (length (w .target .table .entries)) (firstFree (w .target .table .entries)) ≡ false
+      → Good head (withDraft (w .target) (begun val)) (w .mem)
+  good-begun val small new room =
+      good-draft (w .target) (w .mem) g (begun val)
+      (begun-draft (w .target .table .entries) (g .shaped .entries) val small new room)
+
+  -- an element that fits joins it
+  pub good-joined : (e : Element) → inHand w ≡ true → roomFor (w .target .table .draft) e ≡ Fits
+      → Good head (withDraft (w .target) (withElement (w .target .table .draft) e)) (w .mem)
+  unfolding inHand
+  good-joined e hand room =
+      let d = w .target .table .draft in
+      let o = parts-of (w .target) (w .mem) g .table in
+      good-draft (w .target) (w .mem) g (withElement d e)
+      (joined-draft (w .target .table .entries) (o .eight) d (o .draft) e (not-true (eqb (d .active) 0) hand) room)
+
+  -- ---- processes
+
+  -- the state and the mark of one are set
+  pub good-state : (i s m : ℕ) → i < w .target .count → markFit s m ≡ true
+      → Good head (setState (w .target) i s m) (w .mem)
+  unfolding setState
+  good-state i s m h e =
+      good-processes (w .target) (w .mem) g _
+      (state-parts _ _ _ _ (parts-of (w .target) (w .mem) g .processes) i s m h e)
+
+  -- one is Stopped, and its mark cleared
+  pub good-stopped : (i : ℕ) (block : List ℕ) → i < w .target .count → GoodWorld head (stopWith w i block)
+  unfolding stopWith
+  good-stopped i block h = good-state i stopped 0 h (mark-none stopped)
+
+  -- ---- breakpoints and bytes
+
+  -- a breakpoint is removed
+  pub good-removed : (k : ℕ) → Used (w .target) k → GoodWorld head (removed w k)
+  unfolding removed
+  good-removed k u = good-freed (w .target) (w .mem) g k u
+
+  -- the one at an address is, where there is one
+  pub good-removed-at : (address : ℕ) → GoodWorld head (removedAt w address)
+  unfolding removedAt
+  good-removed-at address =
+      let es = w .target .table .entries in
+      choose (GoodWorld head) (ltb (breakpointAt es address) (length es))
+      (λ e. good-removed (breakpointAt es address) (used-at es address (g .shaped .entries) (ltb-true _ _ e))) (λ e. g)
+
+  -- one is made
+  pub good-planted : (site : ℕ) → inHand w ≡ true → siteFree w site ≡ true
+      → wellFormed (w .target .table .draft .elements) (w .target .table .draft .count) ≡ true
+      → GoodWorld head (planted head w site)
+  unfolding planted inHand siteFree isSite madeEntry isFree entryOf
+  good-planted site hand free formed =
+      let es = w .target .table .entries in
+      let d = w .target .table .draft in
+      let o = hand-of d es (parts-of (w .target) (w .mem) g .table .draft .fit) (not-true (eqb (d .active) 0) hand) in
+      let none : length es ≤ breakpointAt es site = search parts in
+      let eight = g .shaped .entries in
+      let fits : site - w .target .base + 2 ≤ w .target .size = search parts in
+      let low : w .target .base ≤ site = search parts in
+      good-made (w .target) (w .mem) g (firstFree es) (madeEntry w site) (o .room)
+      (free-found es (omega (arith, o .room)))
+      (record { plain = refl; elements = g .shaped .draftElements; id = g .shaped .draftId }) refl
+      (record { one = refl; even = search parts depth 7; low = low; high = omega arith; formed = formed })
+      (λ j u e. omega (arith, id-first es (d .id) j (omega (arith, u .0)) (u .1) e, o .unused, u .0))
+      (λ j u e. omega (arith, at-first es site j (omega (arith, u .0)) (u .1) e, u .0))
+
+  -- bytes are written to the window
+  pub good-window : (addr : ℕ) (bytes : List ℕ) → GoodWorld head (windowWritten w addr bytes)
+  unfolding windowWritten
+  good-window addr bytes = good-written (w .target) (w .mem) g (addr - w .target .base) bytes

@@ -1,0 +1,167 @@
+-- Every stub of the table is shut out: what the claim says after the row's steps is false, so demand 3 is.
+use mathlib.Core.Path.{_≡_, refl, sym, ap, _∙_}
+use mathlib.Core.Bool.{false}
+use mathlib.Core.List.{List, [], _∷_, _++_, map}
+use Prim.Native.Nat.{ℕ}
+use lib.ListN.{replicate}
+use Rattle.common.specs.Bytes.{highFirst}
+use Rattle.common.specs.Same.{sameList}
+use Rattle.common.proofs.Same.{same-refl, true-or-false}
+use Rattle.memory.specs.Head.{house}
+use Rattle.wire_text.specs.declared.Reason.{Reason}
+use Rattle.rules.specs.Outcome.{answerBytes}
+use Rattle.rules.specs.Step.{Step, stateEvent}
+use Rattle.rules.specs.Claim.{Stub, stubOf, Part, Says, Right, Action, step, Claim, Demand3}
+use Rattle.rules.specs.Claim.{numberPart, answerPart, replyPart, fitPart, readsPart, trappedPart, trapPart}
+use Rattle.rules.specs.Claim.{restartPart}
+use Rattle.rules.specs.Claims.{ShutOut, AllShut, none, _&_}
+use Rattle.rules.specs.Stubs.{rerrAlways, zerosAlways, storesNothing, plantsFirstOnly, plantsNothing}
+use Rattle.rules.specs.Stubs.{readsReal, findsNoSite, neverStops, acceptsStates, answersStates, zeroRestart}
+use Rattle.rules.specs.Stubs.{keepsTraps, alwaysUnfit}
+use Rattle.rules.specs.Stubs.{zeroed, ask, trapAt, scheduled, restartNow, case1, twoBytes, case4, twice, case5}
+use Rattle.rules.specs.Stubs.{readBack, case10}
+use Rattle.rules.specs.Stubs.{Stage, begun, passed, SaysAfter, RealAfter, Row, part, memory, actsOf, SaysRow}
+use Rattle.rules.specs.Stubs.{rows}
+use Rattle.rules.specs.Worked.{workedSetup}
+use Rattle.rules.proofs.Computes.{claim-computes}
+use Rattle.rules.proofs.Worked.{setup-accepted}
+
+-- ---- what demand 3 gives of a stub, after steps of the worked setup
+
+-- a part of what is claimed of a step
+said : {h : _} {s : _} {b : _} {e : _} {r : _} {o : _} → Right h s b e r o → (p : Part) → Says p h s b e r o
+said c numberPart = c .number
+said c answerPart = c .answer
+said c replyPart = c .reply
+said c fitPart = c .fit
+said c readsPart = c .reads
+said c trappedPart = c .trapped
+said c trapPart = c .trap
+said c restartPart = c .restart
+
+module _ (f : Stub) where
+  along : (g : Stage f) (es : List Step) (rest : List Action)
+      → Claim house workedSetup f (g .book) (g .target) (g .own) (g .mem) (map step es ++ rest)
+      → let z = passed f g es in Claim house workedSetup f (z .book) (z .target) (z .own) (z .mem) rest
+  unfolding Claim passed
+  along g [] rest c = c
+  along g (e ∷ es) rest c = along _ es rest (c .1)
+
+  says-after : Demand3 house f → (p : Part) (es : List Step) (e : Step) → SaysAfter p f es e
+  unfolding Claim SaysAfter
+  says-after d p es e =
+      said (along (begun f) es (step e ∷ []) (d workedSetup setup-accepted (map step es ++ (step e ∷ []))) .0) p
+
+  real-after : Demand3 house f → (es : List Step) → RealAfter f es
+  unfolding Claim RealAfter
+  real-after d es = along (begun f) es [] (d workedSetup setup-accepted (map step es ++ []))
+
+-- so it is false of a stub of which a row's part is
+by-row : (x : Row) → (SaysRow x → ⊥) → ShutOut x
+unfolding SaysRow actsOf
+by-row (part p f es e) n = record { row = n; claim = λ d. n (says-after (stubOf f) d p es e) }
+by-row (memory f es) n = record { row = n; claim = λ d. n (real-after (stubOf f) d es) }
+
+-- ---- the table
+
+-- lists that a test tells apart are not the same
+apart : {x y : List ℕ} → x ≡ y → sameList x y ≡ false → ⊥
+apart {x} p e = true-or-false (sym e ∙ ap (sameList x) (sym p) ∙ same-refl x)
+
+abbrev one : ℕ → List ℕ
+one n = n ∷ []
+
+-- what the blocks and bytes of those steps are
+abbrev trapBlock : List ℕ
+trapBlock = replicate 132 0 ++ highFirst 4 4_104
+
+abbrev readBytes : List ℕ
+readBytes = highFirst 10 0x02_00001008_04_00000000
+
+abbrev twoRead : List ℕ
+twoRead = highFirst 10 0x02_00001008_02_00000000
+
+rerr-always : (r : Reason) → SaysAfter replyPart (stubOf (rerrAlways r)) [] case1 → ⊥
+unfolding claim-computes
+rerr-always r c = apart c refl
+
+zeros-always : SaysAfter replyPart (stubOf zerosAlways) [] case1 → ⊥
+unfolding claim-computes
+zeros-always c = apart c refl
+
+stores-nothing-reply : SaysAfter replyPart (stubOf storesNothing) case5 readBack → ⊥
+unfolding claim-computes
+stores-nothing-reply c = apart c refl
+
+stores-nothing-reads : SaysAfter readsPart (stubOf storesNothing) case5 readBack → ⊥
+unfolding claim-computes
+stores-nothing-reads c = apart (c zeroed readBytes (replicate 10 0) 4_104 4 refl refl refl refl) refl
+
+stores-nothing-memory : RealAfter (stubOf storesNothing) case5 → ⊥
+unfolding claim-computes
+stores-nothing-memory c = apart c refl
+
+plants-first-only : RealAfter (stubOf plantsFirstOnly) twice → ⊥
+unfolding claim-computes
+plants-first-only c = apart c refl
+
+plants-nothing : RealAfter (stubOf plantsNothing) case4 → ⊥
+unfolding claim-computes
+plants-nothing c = apart c refl
+
+reads-real : SaysAfter readsPart (stubOf (readsReal 1)) case4 twoBytes → ⊥
+unfolding claim-computes
+reads-real c = apart (c zeroed twoRead (replicate 10 0) 4_104 2 refl refl refl refl) refl
+
+evaluates-real : SaysAfter trapPart (stubOf (readsReal 2)) case10 trapAt → ⊥
+unfolding claim-computes
+evaluates-real c = apart (ap answerBytes (c zeroed trapBlock 5 refl refl)) refl
+
+finds-no-site : SaysAfter trappedPart (stubOf findsNoSite) case4 trapAt → ⊥
+unfolding claim-computes
+finds-no-site c = apart (ap one (c zeroed trapBlock 5 refl)) refl
+
+never-stops : SaysAfter answerPart (stubOf neverStops) (ask 0x0c_00000005_0000000000 ∷ []) scheduled → ⊥
+unfolding claim-computes
+never-stops c = apart (ap answerBytes c) refl
+
+accepts-states : SaysAfter numberPart (stubOf acceptsStates) [] (stateEvent zeroed 5 8) → ⊥
+unfolding claim-computes
+accepts-states c = apart (ap one c) refl
+
+answers-states : SaysAfter answerPart (stubOf answersStates) [] (stateEvent zeroed 5 9) → ⊥
+unfolding claim-computes
+answers-states c = apart (ap answerBytes c) refl
+
+zero-restart : SaysAfter replyPart (stubOf zeroRestart) [] restartNow → ⊥
+unfolding claim-computes
+zero-restart c = apart c refl
+
+keeps-traps : SaysAfter restartPart (stubOf keepsTraps) case4 restartNow → ⊥
+unfolding claim-computes
+keeps-traps c = apart (c zeroed (replicate 10 0) refl refl) refl
+
+always-unfit : SaysAfter fitPart (stubOf alwaysUnfit) [] case1 → ⊥
+unfolding claim-computes
+always-unfit c = c refl
+
+pub stubs : (r : Reason) → AllShut (rows r)
+unfolding rows SaysRow
+stubs r =
+    by-row _ (rerr-always r) &
+    by-row _ zeros-always &
+    by-row _ stores-nothing-reply &
+    by-row _ stores-nothing-reads &
+    by-row _ stores-nothing-memory &
+    by-row _ plants-first-only &
+    by-row _ plants-nothing &
+    by-row _ reads-real &
+    by-row _ evaluates-real &
+    by-row _ finds-no-site &
+    by-row _ never-stops &
+    by-row _ accepts-states &
+    by-row _ answers-states &
+    by-row _ zero-restart &
+    by-row _ keeps-traps &
+    by-row _ always-unfit &
+    none

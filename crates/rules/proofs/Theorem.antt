@@ -1,0 +1,149 @@
+-- Demand 3, over any head: over every list of steps after an accepted setup, real memory and every answer are the
+-- book's. The relation (Agree.antt) holds after setup, and every step and every outside change keeps it; what is
+-- claimed follows from it.
+use mathlib.Core.Path.{_≡_, refl, _∙_}
+use mathlib.Core.Bool.{true, false}
+use mathlib.Core.List.{List, [], _∷_}
+use mathlib.Core.Option.{none}
+use Prim.Native.Nat.{ℕ}
+use borrow.Author.Tests.{eqb-false}
+use lib.ListN.{set}
+use Rattle.memory.specs.Head.{Head}
+use Rattle.memory.specs.Overlay.{covered}
+use Rattle.request_parse.specs.Request.{parseOf}
+use Rattle.request_parse.specs.declared.Parsed.the-variants.{Request}
+use Rattle.target.specs.declared.Target.{Target}
+use Rattle.wire.specs.declared.Message.the-variants.{Tmget}
+use Rattle.rules.specs.Outcome.{Outcome, answered}
+use Rattle.rules.specs.Breakpoint.{sites}
+use Rattle.rules.specs.Step.{setupTarget, Step, request, trapEvent, restartStep, stepOf}
+use Rattle.rules.specs.Book.{Book, inWindow, readBy, opened, withPlain, fed, underTrap}
+use Rattle.rules.specs.Step.{Setup, setupBy, isAccepted}
+use Rattle.rules.specs.Claim.{stubOf, Says, Right, Action, step, change, Claim, Demand3}
+use Rattle.rules.proofs.Facts.{Good}
+use Rattle.rules.proofs.FitFacts.{facts-of}
+use Rattle.rules.proofs.Outcomes.{SetUp, taken, emptied, set-up}
+use Rattle.rules.proofs.Kept.{good-setup, good-kept, good-change, never-three}
+use Rattle.rules.proofs.Agree.{Follows, Agree}
+use Rattle.rules.proofs.Breakpoints.{listed-fresh}
+use Rattle.rules.proofs.Laid.{same-covered, real-memory, plain-fresh}
+use Rattle.rules.proofs.Halted.{halted-begun, pids-begun}
+use Rattle.rules.proofs.Moves.{drafted-none, move-change}
+use Rattle.rules.proofs.AfterStep.{after-step}
+use Rattle.rules.proofs.PlainReads.{ReadsRequest, ReadsMessage, RightStep, right-step}
+use Rattle.rules.proofs.Traps.{trap-number}
+use Rattle.request_parse.proofs.Exact.{exact}
+use Rattle.wire_laws.proofs.Messages.{messages}
+use Rattle.rules.proofs.Refusals.{refusals, setups}
+use Rattle.rules.proofs.Replies.{numbers, replies}
+use Rattle.rules.proofs.Worked.{setup-accepted, worked}
+use Rattle.rules.proofs.Shut.{stubs}
+use Rattle.rules.specs.Claims.{Claims}
+
+-- ---- an accepted setup
+
+module _ (s : Setup) where
+  abbrev begun : Target
+  begun = setupTarget (s .base) (s .size) (s .pids) (s .addresses) (s .count)
+
+  -- its record follows the book that is opened
+  follows-setup : {head : Head} → Good head begun (s .mem) → Follows s (opened s) begun (s .mem)
+  unfolding setupTarget opened
+  follows-setup good =
+      let f = facts-of begun (s .mem) good in
+      record {
+        base = refl;
+        size = refl;
+        count = refl;
+        pids = pids-begun (s .pids) (s .addresses) (s .count) (f .few) (f .pids);
+        plain = plain-fresh (s .base) (s .mem);
+        breakpoints = listed-fresh;
+        draft = drafted-none none;
+        stopped = halted-begun (s .pids) (s .addresses) (s .count) (f .few);
+      }
+
+  agree-taken : {head : Head} {o : Outcome}
+      → SetUp (s .base) (s .size) (s .pids) (s .addresses) (s .count) (s .mem) (s .regs) o
+      → Good head (o .after .target) (s .mem) → o .number ≡ 0 → Agree head s (opened s) (o .after .target) (s .mem)
+  unfolding answered
+  agree-taken (taken e f z) good n = record { good = good; follows = follows-setup good }
+  agree-taken (emptied n h) good z = absurd (eqb-false n 0 h z)
+
+  pub agree-setup : (head : Head) → setupBy s .number ≡ 0 → Agree head s (opened s) (setupBy s .after .target) (s .mem)
+  unfolding setupBy
+  agree-setup head h =
+      agree-taken (set-up (s .base) (s .size) (s .pids) (s .addresses) (s .count) (s .mem) (s .regs))
+      (good-setup head s h) h
+
+-- ---- every list
+
+-- an outside change under no trap
+pub agree-change : {head : Head} (s : Setup) (b : Book) (t : Target) (mem : List ℕ) (i byte : ℕ)
+    → Agree head s b t mem → underTrap s b i ≡ false
+    → Agree head s (withPlain b (set (b .plain) i byte)) t (set mem i byte)
+unfolding underTrap
+agree-change s b t mem i byte a e =
+    let bare : covered 2 (sites t) i ≡ false = same-covered s b t mem a i ∙ e in
+    record { good = good-change t mem i byte (a .good) bare; follows = move-change s b t mem (a .follows) i byte bare }
+
+-- a Tmget of the window answers as the book says
+right-read : {head : Head} (s : Setup) (b : Book) (t : Target) (mem : List ℕ) → Agree head s b t mem
+    → (regs bytes buffer : List ℕ) (addr n : ℕ) → parseOf bytes ≡ Request (Tmget addr n) → inWindow s addr n ≡ true
+    → let o = stepOf head t mem (request regs bytes buffer) in
+    isAccepted (o .number) (o .reply) ≡ true → o .reply ≡ readBy s b addr n
+unfolding RightStep ReadsRequest ReadsMessage
+right-read {head} s b t mem a regs bytes buffer addr n m i z =
+    let o = stepOf head t mem (request regs bytes buffer) in
+    let given : ReadsRequest s b (parseOf bytes) (o .reply) =
+    right-step s b t mem a (request regs bytes buffer) z in
+    (rw m at given) i
+
+-- a step of the rules is right
+pub right : {head : Head} (s : Setup) (b : Book) (t : Target) (mem : List ℕ) → Agree head s b t mem → (e : Step)
+    → let o = stepOf head t mem e in Right head s b e o (stubOf (stepOf head) .act t mem e .1)
+unfolding RightStep Says
+right s b t mem a e = record {
+  number = refl;
+  answer = refl;
+  reply = refl;
+  fit = never-three t mem e (a .good);
+  reads = λ regs bytes buffer addr n q. rw q (right-read s b t mem a regs bytes buffer addr n);
+  trap = λ x y z q. rw q (right-step s b t mem a (trapEvent _ _ _));
+  trapped = λ x y z q. rw q (trap-number s b t mem a _ _ _);
+  restart = λ x y q. rw q (right-step s b t mem a (restartStep _ _));
+}
+
+-- what is claimed holds wherever the relation does
+pub claimed : {head : Head} (es : List Action) (s : Setup) (b : Book) (t : Target) (mem : List ℕ)
+    → Agree head s b t mem → Claim head s (stubOf (stepOf head)) b t t mem es
+unfolding Claim
+claimed [] s b t mem a = real-memory s b t mem a
+claimed {head} (step e ∷ es) s b t mem a =
+    let o = stepOf head t mem e in
+    rw (← (real-memory s b t mem a)) (
+      right s b t mem a e,
+      claimed es s (fed s b e (o .number) (o .answer) (o .reply)) (o .after .target) (o .after .mem)
+          (record { good = good-kept t mem e (a .good); follows = after-step s b t mem a e }),
+    )
+claimed (change i byte ∷ es) s b t mem a =
+    λ e. claimed es s (withPlain b (set (b .plain) i byte)) t (set mem i byte) (agree-change s b t mem i byte a e)
+
+-- "Over every list of steps after an accepted setup"
+pub demand3 : (head : Head) → Demand3 head (stubOf (stepOf head))
+demand3 head s h es = claimed es s (opened s) (setupBy s .after .target) (s .mem) (agree-setup s head h)
+
+-- ---- every end statement
+
+pub claims : Claims
+claims = record {
+  refusals = refusals;
+  setups = setups;
+  numbers = numbers;
+  replies = replies;
+  messages = messages;
+  requests = exact;
+  workedSetup = setup-accepted;
+  worked = worked;
+  demand3 = demand3;
+  stubs = stubs;
+}

@@ -1,0 +1,132 @@
+-- What is promised: every end statement about the rules, in the order of the demands. `claims` in proofs/Theorem.antt
+-- proves them.
+use mathlib.Core.Path.{_≡_}
+use mathlib.Core.Bool.{Bool, true, false, cond, _&&_}
+use mathlib.Core.List.{List, [], _∷_, map}
+use Prim.Native.Nat.{ℕ}
+use lib.Dec.{eqb}
+use lib.ListN.{length}
+use Rattle.common.specs.Numbers.{accepted, wrongSize, notFit}
+use Rattle.memory.specs.Head.{Head, house}
+use Rattle.request_parse.specs.Exact.{Exact}
+use Rattle.target.specs.Fresh.{emptyTarget}
+use Rattle.target.specs.declared.Target.{Target}
+use Rattle.target_fit.specs.Fit.{fitOf}
+use Rattle.wire.specs.Message.{isMessage, bytesOf}
+use Rattle.wire.specs.declared.Message.{Message}
+use Rattle.wire_laws.specs.Claims.{Messages}
+use Rattle.wire_text.specs.declared.Reason.{Reason}
+use Rattle.rules.specs.declared.Answer.the-variants.{Nothing}
+use Rattle.rules.specs.Outcome.{World, world, Outcome}
+use Rattle.rules.specs.Condition.{dropped}
+use Rattle.rules.specs.Request.{drops}
+use Rattle.rules.specs.Step.{Setup, setupBy, sized, requestOf, Step, regsOf, bufferOf, isRefused, stepOf}
+use Rattle.rules.specs.Step.{request, trapEvent, scheduleEvent, stateEvent, restartStep}
+use Rattle.rules.specs.Claim.{stubOf, rulesStub, Demand3}
+use Rattle.rules.specs.Worked.{workedSetup, after, rows as workedRows}
+use Rattle.rules.specs.Stubs.{Row, actsOf, SaysRow, rows as stubRows}
+
+-- ---- demand 1: "A refused step other than a setup changes no byte of memory, no saved register, no breakpoint"
+
+-- the memory, the register area, the breakpoints and all else of the record but the condition in hand are as before
+pub record Kept (before after : World) : Type 0 where
+  pub mem : after .mem ≡ before .mem
+  pub regs : after .regs ≡ before .regs
+  pub entries : after .target .table .entries ≡ before .target .table .entries
+  pub base : after .target .base ≡ before .target .base
+  pub size : after .target .size ≡ before .target .size
+  pub count : after .target .count ≡ before .target .count
+  pub processes : after .target .processes ≡ before .target .processes
+  pub selected : after .target .selected ≡ before .target .selected
+  pub current : after .target .current ≡ before .target .current
+
+-- "all unchanged": the whole record, memory, register area and reply buffer; and no answer
+pub record Unchanged (before : World) (reply : List ℕ) (o : Outcome) : Type 0 where
+  pub world : o .after ≡ before
+  pub buffer : o .reply ≡ reply
+  pub answer : o .answer ≡ Nothing
+
+-- "Every Tcondbreak that gets Rerr and whose op is not d and three zeros drops the condition in hand"; no other step
+-- does
+unfoldable pub isDropping : Step → Bool
+isDropping (request regs bytes reply) = drops bytes
+isDropping (trapEvent regs pid block) = false
+isDropping (scheduleEvent regs pid block) = false
+isDropping (stateEvent regs pid value) = false
+isDropping (restartStep regs reply) = false
+
+-- what a refused step leaves: memory, register area and breakpoints always; with number 0 the whole world, but for
+-- the condition in hand where the step drops it; and with another number the reply buffer too
+pub record Refusal (refused dropping : Bool) (before : World) (reply : List ℕ) (o : Outcome) : Type 0 where
+  pub kept : refused ≡ true → Kept before (o .after)
+  pub exactly : refused ≡ true → o .number ≡ accepted → o .after ≡ cond dropping (dropped before) before
+  pub unchanged : (o .number ≡ accepted → ⊥) → Unchanged before reply o
+
+-- "lent buffers unchanged; the record is empty". "An accepted setup changes no lent buffer"
+pub record SetupLeaves (mem regs : List ℕ) (o : Outcome) : Type 0 where
+  pub memory : o .after .mem ≡ mem
+  pub area : o .after .regs ≡ regs
+  pub empty : (o .number ≡ accepted → ⊥) → o .after .target ≡ emptyTarget
+
+-- ---- demand 2: "Every request .. is read, carried out and answered"
+
+-- a reply is a message's ten bytes
+pub record Reply (o : Outcome) : Type 0 where
+  pub number : o .number ≡ accepted
+  pub message : Message
+  pub lawful : isMessage message ≡ true
+  pub bytes : o .reply ≡ bytesOf message
+  pub ten : length (o .reply) ≡ 10
+
+-- an accepted event has none
+pub record NoReply (o : Outcome) : Type 0 where
+  pub number : o .number ≡ accepted
+  pub none : o .reply ≡ []
+
+unfoldable pub RightReply : Step → Outcome → Type 0
+RightReply (request regs bytes reply) o = Reply o
+RightReply (trapEvent regs pid block) o = NoReply o
+RightReply (scheduleEvent regs pid block) o = NoReply o
+RightReply (stateEvent regs pid value) o = NoReply o
+RightReply (restartStep regs reply) o = Reply o
+
+-- "A request that passes 2 and 3 always gets number 0": its number, for every input
+unfoldable pub requestNumber : Head → World → List ℕ → List ℕ → ℕ
+requestNumber h w bytes reply =
+    cond (sized w && (eqb (length bytes) 10 && eqb (length reply) 10))
+    (cond (fitOf h (w .target) (w .mem)) accepted notFit) wrongSize
+
+-- ---- the stubs of the table
+
+-- what the row says of its stub is false there, and so demand 3 is
+pub record ShutOut (x : Row) : Type 0 where
+  pub row : SaysRow x → ⊥
+  pub claim : Demand3 house (stubOf (actsOf x)) → ⊥
+
+infixr 5 _&_
+pub data AllShut : List Row → Type 0 where
+  none : AllShut []
+  _&_ : {x : Row} {xs : List Row} → ShutOut x → AllShut xs → AllShut (x ∷ xs)
+
+-- ---- the statements
+
+pub record Claims : Type 0 where
+  -- demand 1, for every record, memory and step: nothing is assumed of the record
+  pub refusals : (h : Head) (t : Target) (mem : List ℕ) (e : Step)
+      → Refusal (isRefused e (stepOf h t mem e)) (isDropping e) (world t mem (regsOf e)) (bufferOf e) (stepOf h t mem e)
+  pub setups : (s : Setup) → SetupLeaves (s .mem) (s .regs) (setupBy s)
+  -- demand 2
+  pub numbers : (h : Head) (w : World) (bytes reply : List ℕ)
+      → requestOf h w bytes reply .number ≡ requestNumber h w bytes reply
+  pub replies : (h : Head) (t : Target) (mem : List ℕ) (e : Step) → stepOf h t mem e .number ≡ accepted
+      → RightReply e (stepOf h t mem e)
+  -- "each message has one set of bytes, written and read back"; a request is what the message reader finds
+  pub messages : Messages
+  pub requests : Exact
+  -- "Marked (*) to be proved of the definitions, as a single table under a single statement"
+  pub workedSetup : setupBy workedSetup .number ≡ accepted
+  pub worked : map (λ r. after (stepOf house) (r .calls)) workedRows ≡ map (λ r. r .shows) workedRows
+  -- demand 3, with every head, of the rules' steps
+  pub demand3 : (h : Head) → Demand3 h (rulesStub h)
+  -- and of no stub of the table: each row's part of the claim is false where the row says
+  pub stubs : (r : Reason) → AllShut (stubRows r)

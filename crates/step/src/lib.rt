@@ -1,0 +1,154 @@
+// Every step but the setup, by its kind: the buffers' sizes, then whether the record is fit, then the step itself. A step says
+// what it changes in the record, which stays with its caller. One function for all steps, so that the record is tested in one
+// place.
+use target_fit::Scan;
+use request_parse::Parsed;
+use rules::Answer;
+use step_effect::Change;
+use step_effect::Effect;
+use step_effect::Served;
+use target::Process;
+use target::Target;
+use wire_text::Reason;
+use wire::Message;
+ghost use mathlib.Core.Path.{_≡_};
+ghost use mathlib.Core.Bool.{_&&_};
+ghost use Prim.Native.Nat.{_*_};
+ghost use lib.Dec.{eqb};
+ghost use lib.ListN.{length};
+ghost use Rattle.memory.specs.Head.{house};
+ghost use Rattle.request_parse.specs.Request.{parseOf};
+ghost use Rattle.rules.specs.Outcome.{world};
+ghost use Rattle.step_effect.specs.Ready.{Ready, effectOutcome};
+ghost use Rattle.rules.specs.Request.{requestBy};
+ghost use Rattle.rules.specs.Event.{restart as restartRule};
+ghost use Rattle.rules.specs.declared.Answer.the-variants as answer;
+ghost use Rattle.step.specs.Kinds.{lentRight, stepBy};
+
+// The steps but the setup.
+pub enum StepKind {
+    Request,
+    Trap,
+    Schedule,
+    State,
+    Restart,
+}
+
+// A request and a reply are ten bytes, a block 136.
+fn lent_right(kind: StepKind, input: usize, reply: usize) -> bool
+    ensures { λ r. ⌜ r ≡ lentRight kind input reply ⌝ }
+{
+    match kind {
+        StepKind::Request => input == 10 && reply == 10,
+        StepKind::Trap => input == Process::BLOCK,
+        StepKind::Schedule => input == Process::BLOCK,
+        StepKind::State => true,
+        StepKind::Restart => reply == 10,
+    }
+}
+
+// An accepted request: its change of the record, and its ten bytes in the reply.
+fn accepted(done: Served, reply: &mut [u8]) -> Effect
+    requires { ⌜ length (now reply) ≡ 10 ⌝ }
+    ensures {
+        λ r. ⌜ (r ≡ record { number = 0; answer = answer.Nothing; change = done .change; plain = done .plain })
+        × (now (reply .exit) ≡ done .bytes) ⌝
+    }
+{
+    let change = done.change;
+    let plain = done.plain;
+    let bytes = done.bytes;
+    common::copy(reply, &bytes);
+    Effect {
+        number: common::ACCEPTED,
+        answer: Answer::Nothing,
+        change,
+        plain: plain,
+    }
+}
+
+// A request of ten bytes, answered in ten.
+fn request(
+    t: Target,
+    s: Scan,
+    mem: &mut [u8],
+    regs: &mut [u8],
+    bytes: &[u8],
+    reply: &mut [u8],
+) -> Effect
+    requires { ⌜ Ready house t s (now mem) (now regs) ⌝ }
+    requires { ⌜ (length (now bytes) ≡ 10) × (length (now reply) ≡ 10) ⌝ }
+    ensures {
+        λ r. ⌜ effectOutcome t r (now (mem .exit)) (now (regs .exit)) (now (reply .exit))
+        ≡ requestBy house (parseOf (now (bytes .entry))) (world t (now (mem .entry)) (now (regs .entry)))
+        (now (bytes .entry)) (now (reply .entry)) ⌝
+    }
+{
+    let asked = request_parse::parse(bytes);
+    match asked {
+        Parsed::Request(m) => {
+            let done = request_serve::serve(t, s, mem, regs, m);
+            accepted(done, reply)
+        }
+        Parsed::Refused(reason) => {
+            let done = request_serve::refuse(bytes, reason);
+            accepted(done, reply)
+        }
+        Parsed::NotTen => Effect::keeping(common::WRONG_SIZE, Answer::Nothing),
+    }
+}
+
+// A restart: every trap's plain bytes go back.
+fn restart<'a>(t: Target, s: Scan, mem: &'a mut [u8], regs: &'a [u8], reply: &'a mut [u8]) -> Effect
+    requires { ⌜ Ready house t s (now mem) (now regs) ⌝ }
+    requires { ⌜ length (now reply) ≡ 10 ⌝ }
+    ensures {
+        λ r. ⌜ effectOutcome t r (now (mem .exit)) (now (regs .entry)) (now (reply .exit))
+        ≡ restartRule (world t (now (mem .entry)) (now (regs .entry))) ⌝
+    }
+{
+    let sites = s.sites;
+    let plain = s.plain;
+    memory::restore(mem, &sites, &plain);
+    let bytes = wire::bytes_of(Message::Rerr {
+        reason: Reason::Reset,
+    });
+    common::copy(reply, &bytes);
+    Effect::changing(Answer::Nothing, Change::Restart)
+}
+
+// A step by its kind.
+pub fn step(
+    t: Target,
+    kind: StepKind,
+    mem: &mut [u8],
+    regs: &mut [u8],
+    pid: u32,
+    value: u8,
+    input: &[u8],
+    reply: &mut [u8],
+) -> Effect
+    ensures {
+        λ r. ⌜ effectOutcome t r (now (mem .exit)) (now (regs .exit)) (now (reply .exit))
+        ≡ stepBy kind (world t (now (mem .entry)) (now (regs .entry))) pid value (now (input .entry))
+        (now (reply .entry)) ⌝
+    }
+{
+    if !target_fit::sizes_right(t.size, t.count, mem.len(), regs.len()) {
+        return Effect::keeping(common::WRONG_SIZE, Answer::Nothing);
+    }
+    if !lent_right(kind, input.len(), reply.len()) {
+        return Effect::keeping(common::WRONG_SIZE, Answer::Nothing);
+    }
+    let s = target_scan::check(t, mem);
+    if !s.fit {
+        return Effect::keeping(common::NOT_FIT, Answer::Nothing);
+    }
+    match kind {
+        StepKind::Request => request(t, s, mem, regs, input, reply),
+        StepKind::Trap => event::trap(t, s, mem, regs, pid, input),
+        StepKind::Schedule => event::schedule(t, regs, pid, input),
+        StepKind::State => event::state(t, pid, value),
+        StepKind::Restart => restart(t, s, mem, regs, reply),
+    }
+}

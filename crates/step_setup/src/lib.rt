@@ -1,0 +1,96 @@
+// Setup: the record of a window and its processes.
+use rules::Answer;
+use step_effect::Done;
+use target::Process;
+use target::Table;
+use target::Target;
+ghost use mathlib.Core.Path.{_≡_};
+ghost use mathlib.Core.List.{[]};
+ghost use Rattle.common.specs.Tab.{tab};
+ghost use Rattle.rules.specs.Outcome.{world, outcome};
+ghost use Rattle.rules.specs.Step.{beginning, setupOf};
+ghost use Rattle.rules.specs.declared.Answer.the-variants as answer;
+ghost use Rattle.target.specs.Fresh.{emptyTarget};
+ghost use Rattle.target.specs.Limits.{maxProcesses};
+
+// The first `count` processes begin Ready and unmarked.
+fn processes_of(pids: [u32; Target::PROCESSES], addresses: [u32; Target::PROCESSES], count: u32) -> [Process; Target::PROCESSES]
+    ensures { λ r. ⌜ r ≡ tab maxProcesses (beginning pids addresses count) ⌝ }
+{
+    let none = Process {
+        pid: 0,
+        address: 0,
+        state: 0,
+        wanted: 0,
+    };
+    let mut processes = [none; Target::PROCESSES];
+    let n = count as usize;
+    let mut i: usize = 0;
+    while i < Target::PROCESSES {
+        if i == n {
+            break;
+        }
+        processes[i] = Process {
+            pid: pids[i],
+            address: addresses[i],
+            state: Process::READY,
+            wanted: 0,
+        };
+        i += 1;
+    }
+    processes
+}
+
+// A refused setup leaves the empty record.
+fn refused(number: u8) -> Done
+    ensures { λ r. ⌜ r ≡ record { number = number; answer = answer.Nothing; target = emptyTarget } ⌝ }
+{
+    let empty = Target::empty();
+    Done {
+        number,
+        answer: Answer::Nothing,
+        target: empty,
+    }
+}
+
+// A window of `size` bytes at `base`, and the first `count` pids and Proc addresses.
+pub fn setup(
+    base: u32,
+    size: u32,
+    pids: [u32; Target::PROCESSES],
+    addresses: [u32; Target::PROCESSES],
+    count: u32,
+    mem: &[u8],
+    regs: &[u8],
+) -> Done
+    ensures {
+        λ r. ⌜ outcome (r .number) (r .answer) (world (r .target) (now (mem .entry)) (now (regs .entry))) []
+        ≡ setupOf base size pids addresses count (now (mem .entry)) (now (regs .entry)) ⌝
+    }
+{
+    let processes = processes_of(pids, addresses, count);
+    if !target_fit::window_fit(base, size) {
+        return refused(common::BROKEN_SETUP);
+    }
+    if !target_fit::processes_fit(processes, count) {
+        return refused(common::BROKEN_SETUP);
+    }
+    if !target_fit::sizes_right(size, count, mem.len(), regs.len()) {
+        return refused(common::WRONG_SIZE);
+    }
+    let table = Table::new();
+    let target = Target {
+        base,
+        size,
+        count,
+        processes: processes,
+        selected: 0,
+        current: 0,
+        table: table,
+    };
+    Done {
+        number: common::ACCEPTED,
+        answer: Answer::Nothing,
+        target: target,
+    }
+}

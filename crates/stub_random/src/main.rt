@@ -1,4 +1,0 @@
-// The program of the worked setup: steps as raw bytes on standard input, answers on standard output.
-fn main() {
-    session::serve_all();
-}

@@ -1,0 +1,33 @@
+-- 01, "The target record and what is lent": its limits and its fixed numbers.
+use Prim.Native.Nat.{ℕ}
+
+-- "Breakpoints: at most 8"
+abbrev pub maxEntries : ℕ
+maxEntries = 8
+
+-- "an id (0 to 255)"
+abbrev pub maxId : ℕ
+maxId = 255
+
+-- "0 to 16 condition elements"
+abbrev pub maxElements : ℕ
+maxElements = 16
+
+-- "Processes: 1 to 4"
+abbrev pub maxProcesses : ℕ
+maxProcesses = 4
+
+-- "Register area: .. 136 bytes for each process"
+abbrev pub blockSize : ℕ
+blockSize = 136
+
+-- "So pc is at offset 132"
+abbrev pub pcOffset : ℕ
+pcOffset = 132
+
+-- the state bytes, by their place in "state names in order 0 to 9"
+abbrev pub ready : ℕ
+ready = 2
+
+abbrev pub stopped : ℕ
+stopped = 8

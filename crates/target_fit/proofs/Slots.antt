@@ -1,0 +1,110 @@
+-- Laws of a table as arrays: each slot's id, site and plain bytes, and the first free one; and of a record of the code, whose table has
+-- its shape. Assumes nothing.
+use mathlib.Core.Path.{_≡_, refl, ap, _∙_}
+use mathlib.Core.List.{List, [], _∷_, _++_}
+use Prim.Native.Nat.{ℕ, zero, suc, _+_, _*_, _/_, _%_, _<_}
+use native.Mathlib.Nat.{not-suc-le-zero, le-of-suc-le-suc}
+use native.Mathlib.Omega.{arith}
+use borrow.Author.Tests.{ne-eqb}
+use lib.Dec.{eqb}
+use lib.ListN.{length, getD, length-append, List·getD-append}
+use lib.Seq.{getD-append-add}
+use mir.Val.{Val}
+use denote.Laws.{Is}
+use Rattle.common.specs.First.{firstOf}
+use Rattle.common.specs.Tab.{tab}
+use Rattle.common.proofs.Cases.{on-test}
+use Rattle.common.proofs.First.{first-map}
+use Rattle.common.proofs.Tab.{tab-is, tab-map}
+use Rattle.target.specs.Free.{isFree, firstFree}
+use Rattle.target.specs.Fresh.{noEntry}
+use Rattle.target.specs.declared.Entry.{Entry}
+use Rattle.target.specs.declared.Target.{Target}
+use Rattle.target.proofs.Shape.{EntryShape, entry-shape, table-entries, table-entry, target-table}
+use Rattle.target.proofs.Target as target
+use Rattle.target_fit.specs.Arrays.{noId, idOf, siteOf, idsOf, sitesOf, plainsOf}
+use Rattle.target_fit.specs.Fit.{entryAt}
+
+-- ---- ids and sites, place by place
+
+pub ids-tab : (es : List Entry) (n : ℕ) → length es ≡ n → idsOf es ≡ tab n (λ k. idOf (entryAt es k))
+unfolding idsOf
+ids-tab es n z = tab-map idOf es noEntry n z
+
+pub sites-tab : (base : ℕ) (es : List Entry) (n : ℕ) → length es ≡ n → sitesOf base es ≡ tab n (λ k. siteOf base (entryAt es k))
+unfolding sitesOf
+sites-tab base es n z = tab-map (siteOf base) es noEntry n z
+
+-- ---- the plain bytes, where every entry has two
+
+abbrev pub TwoEach : List Entry → Type 0
+TwoEach es = (k : ℕ) → k < length es → length (entryAt es k .plain) ≡ 2
+
+pub length-plains : (es : List Entry) → TwoEach es → length (plainsOf es) ≡ length es * 2
+unfolding plainsOf
+length-plains [] two = refl
+length-plains (e ∷ es) two =
+    omega (arith, length-append (e .plain) (plainsOf es), two 0 (omega arith), length-plains es (λ k h. two (suc k) (omega arith)))
+
+pub sixteen-plains : (es : List Entry) → length es ≡ 8 → TwoEach es → length (plainsOf es) ≡ 16
+sixteen-plains es z two = omega (arith, length-plains es two)
+
+-- byte r of slot k
+pub plain-byte : (es : List Entry) → TwoEach es → (k r : ℕ) → k < length es → r < 2
+    → getD (plainsOf es) (k * 2 + r) 0 ≡ getD (entryAt es k .plain) r 0
+unfolding plainsOf
+plain-byte [] two k r h g = absurd (not-suc-le-zero h)
+plain-byte (e ∷ es) two zero r h g =
+    let z : length (e .plain) ≡ 2 = two 0 (omega arith) in
+    let p : 0 * 2 + r ≡ r = omega arith in
+    ap (λ (n : ℕ). getD (e .plain ++ plainsOf es) n 0) p ∙ List·getD-append (e .plain) (plainsOf es) 0 r (omega arith)
+plain-byte (e ∷ es) two (suc k) r h g =
+    let z : length (e .plain) ≡ 2 = two 0 (omega arith) in
+    let p : suc k * 2 + r ≡ length (e .plain) + (k * 2 + r) = omega arith in
+    ap (λ (n : ℕ). getD (e .plain ++ plainsOf es) n 0) p
+    ∙ getD-append-add (e .plain) (plainsOf es) (k * 2 + r) 0
+    ∙ plain-byte es (λ j l. two (suc j) (omega arith)) k r (le-of-suc-le-suc h) g
+
+-- plain byte j of a table
+abbrev pub plainByte : List Entry → ℕ → ℕ
+plainByte es j = getD (entryAt es (j / 2) .plain) (j % 2) 0
+
+pub plains-tab : (es : List Entry) → length es ≡ 8 → TwoEach es → plainsOf es ≡ tab 16 (plainByte es)
+plains-tab es z two =
+    tab-is (plainsOf es) 16 _ 0 (sixteen-plains es z two)
+    (λ j h.
+    let p : j ≡ j / 2 * 2 + j % 2 = omega arith in
+    ap (λ (n : ℕ). getD (plainsOf es) n 0) p ∙ plain-byte es two (j / 2) (j % 2) (omega arith) (omega arith))
+
+-- ---- the first free entry, by the ids
+
+is-free : (e : Entry) → e .id < 256 → eqb noId (idOf e) ≡ isFree e
+unfolding idOf
+is-free e h = on-test (isFree e) (λ q. rw q) (λ q. rw q (ne-eqb noId (e .id) (λ z. omega arith)))
+
+-- every id is a byte
+abbrev pub Small : List Entry → Type 0
+Small es = (k : ℕ) → k < length es → entryAt es k .id < 256
+
+pub first-free : (es : List Entry) → Small es → firstOf (eqb noId) (idsOf es) ≡ firstFree es
+unfolding idsOf firstFree
+first-free es h = first-map (eqb noId) idOf isFree es noEntry (λ k g. is-free (entryAt es k) (h k g))
+
+-- ---- the table of a record of the code
+
+module _ (t : Target) (vs : List Val) where
+  pub eight-entries : Is target.the-row t vs → length (t .table .entries) ≡ 8
+  eight-entries h = let (_, u) = target-table t vs h in table-entries (t .table) _ u
+
+  -- each entry has its shape
+  pub shape-at : (k : ℕ) → Is target.the-row t vs → k < 8 → EntryShape (entryAt (t .table .entries) k)
+  shape-at k h l =
+      let (_, u) = target-table t vs h in
+      let (_, e) = table-entry (t .table) _ k u l in
+      entry-shape (entryAt (t .table .entries) k) _ e
+
+  pub target-small : Is target.the-row t vs → Small (t .table .entries)
+  target-small h k l = shape-at k h (omega (arith, eight-entries h)) .id
+
+  pub two-each : Is target.the-row t vs → TwoEach (t .table .entries)
+  two-each h k l = shape-at k h (omega (arith, eight-entries h)) .plain

@@ -1,0 +1,130 @@
+-- 01, "The target record and what is lent": when a record is fit, in the paper's order. Memory is M bytes by number 2.
+use Prim.Native.Nat.{ℕ, _+_, _-_, _*_, _%_}
+use mathlib.Core.Bool.{Bool, true, false, cond, not, _&&_, _||_}
+use mathlib.Core.List.{List}
+use lib.Dec.{leb, ltb, eqb}
+use lib.ListN.{length, getD, take, replicate}
+use Rattle.common.specs.Every.{every}
+use Rattle.common.specs.First.{firstOf}
+use Rattle.condition.specs.Depth.{wellBegun, wellFormed}
+use Rattle.memory.specs.Head.{Head}
+use Rattle.memory.specs.Overlay.{noSite}
+use Rattle.memory.specs.Place.{isSite}
+pub use Rattle.target.specs.Limits.{stopped}
+use Rattle.target.specs.Limits.{maxEntries, maxProcesses}
+use Rattle.target.specs.declared.Entry.{Entry}
+use Rattle.target.specs.declared.Draft.{Draft}
+use Rattle.target.specs.declared.Process.{Process}
+use Rattle.target.specs.declared.Target.{Target}
+use Rattle.target.specs.Fresh.{noEntry, noProcess}
+use Rattle.target.specs.Free.{isFree, firstFree}
+use Rattle.target_fit.specs.Arrays.{noId, idOf, idsOf, sitesOf, plainsOf}
+use Rattle.target_fit.specs.declared.Lookup.{Lookup}
+use Rattle.target_fit.specs.declared.Lookup.the-variants.{At, Unlisted}
+use Rattle.target_fit.specs.declared.Scan.{Scan}
+
+-- ---- "the bounds above on M, B, the processes and their pids hold"
+
+-- "M is a multiple of 4 from 4 to 65,536. B is a multiple of 4, at least 4,096, and B + M is at most 2^32"
+unfoldable pub windowFit : ℕ → ℕ → Bool
+windowFit base size =
+    eqb (size % 4) 0 && leb 4 size && leb size 65536 && eqb (base % 4) 0 && leb 4096 base && leb (base + size) 4294967296
+
+abbrev pub processAt : List Process → ℕ → Process
+processAt ps i = getD ps i noProcess
+
+-- the pid of the process at index i is at least 1, and no process before it has it
+unfoldable pub pidFit : List Process → ℕ → Bool
+pidFit ps i = ltb 0 (processAt ps i .pid) && every i (λ j. not (eqb (processAt ps j .pid) (processAt ps i .pid)))
+
+-- "1 to 4 .. each with a distinct pid of at least 1"
+unfoldable pub processesFit : List Process → ℕ → Bool
+processesFit ps n = leb 1 n && leb n maxProcesses && every n (pidFit ps)
+
+-- ---- breakpoints
+
+abbrev pub entryAt : List Entry → ℕ → Entry
+entryAt es i = getD es i noEntry
+
+-- "ids and sites differ"
+unfoldable pub apart : Entry → Entry → Bool
+apart e f = isFree e || isFree f || (not (eqb (e .id) (f .id)) && not (eqb (e .site) (f .site)))
+
+-- "each site is even, has both bytes in the window, and memory holds 02 90 there": the head's trap
+unfoldable pub siteFit : Head → ℕ → List ℕ → ℕ → Bool
+siteFit h base mem s =
+    isSite base (length mem) s && eqb (getD mem (s - base) 0) (h .first) && eqb (getD mem (s - base + 1) 0) (h .second)
+
+-- "each condition is well formed"
+unfoldable pub entryFit : Head → ℕ → List ℕ → Entry → Bool
+entryFit h base mem e = isFree e || (eqb (e .used) 1 && siteFit h base mem (e .site) && wellFormed (e .elements) (e .count))
+
+-- the entry at index i is fit, and apart from every one before it
+unfoldable pub slotFit : Head → ℕ → List ℕ → List Entry → ℕ → Bool
+slotFit h base mem es i = entryFit h base mem (entryAt es i) && every i (λ j. apart (entryAt es j) (entryAt es i))
+
+unfoldable pub entriesFit : Head → ℕ → List ℕ → List Entry → Bool
+entriesFit h base mem es = every maxEntries (slotFit h base mem es)
+
+-- ---- "no Stopped process has a stop wanted"
+
+unfoldable pub markFit : ℕ → ℕ → Bool
+markFit state wanted = cond (eqb state stopped) (eqb wanted 0) (leb wanted 1)
+
+unfoldable pub marksFit : List Process → ℕ → Bool
+marksFit ps n = every n (λ i. markFit (processAt ps i .state) (processAt ps i .wanted))
+
+-- ---- "the current process is none or a listed pid"
+
+-- the index of the process with this pid, or the number of processes
+unfoldable pub processOf : List Process → ℕ → ℕ → ℕ
+processOf ps n pid = firstOf (λ p. eqb (p .pid) pid) (take n ps)
+
+-- the process with this pid, where it is listed
+unfoldable pub findOf : Target → ℕ → Lookup
+findOf t pid =
+    let i = processOf (t .processes) (t .count) pid in
+    cond (ltb i (t .count)) (At i (processAt (t .processes) i)) Unlisted
+
+unfoldable pub currentFit : ℕ → ℕ → List Process → ℕ → Bool
+currentFit selected current ps n = eqb selected 0 || (eqb selected 1 && ltb (processOf ps n current) n)
+
+-- ---- "a condition in hand has a well-formed beginning, an unused id and a free entry waiting"
+
+-- the index of the breakpoint with this id, or the number of entries
+unfoldable pub entryOf : List Entry → ℕ → ℕ
+entryOf es id = firstOf (eqb id) (idsOf es)
+
+-- over the breakpoints' ids, and the index of the first free entry
+unfoldable pub draftTest : Draft → List ℕ → ℕ → Bool
+draftTest d ids free =
+    eqb (d .active) 0
+    || (eqb (d .active) 1 && wellBegun (d .elements) (d .count) && eqb (firstOf (eqb (d .id)) ids) maxEntries && ltb free maxEntries)
+
+unfoldable pub draftFit : Draft → List Entry → Bool
+draftFit d es = draftTest d (idsOf es) (firstFree es)
+
+-- ---- the whole record
+
+unfoldable pub fitOf : Head → Target → List ℕ → Bool
+fitOf h t mem =
+    windowFit (t .base) (t .size)
+    && processesFit (t .processes) (t .count)
+    && entriesFit h (t .base) mem (t .table .entries)
+    && marksFit (t .processes) (t .count)
+    && currentFit (t .selected) (t .current) (t .processes) (t .count)
+    && draftFit (t .table .draft) (t .table .entries)
+
+-- ---- what a scan of the table gives: whether the test holds, and the table as arrays; of an unfit one, arrays of free entries
+
+abbrev pub unfitScan : Scan
+unfitScan = record {
+  fit = false;
+  ids = replicate maxEntries noId;
+  sites = replicate maxEntries noSite;
+  plain = replicate (2 * maxEntries) 0;
+}
+
+unfoldable pub scanOf : Bool → ℕ → List Entry → Scan
+scanOf true base es = record { fit = true; ids = idsOf es; sites = sitesOf base es; plain = plainsOf es }
+scanOf false base es = unfitScan

@@ -1,4 +1,0 @@
-pub mod Book
-pub mod Runs
-pub mod Steps
-pub mod Writes
