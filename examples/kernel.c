@@ -86,14 +86,16 @@ static void show_memory(const struct kernel *kernel) {
 /* ---- the engineer's side ---- */
 
 /* Sends a request (a type, a number of four bytes, and what follows, zero padded), and shows it and its reply. */
-static void ask(struct kernel *kernel, const char *label, uint8_t type, uint32_t number, const uint8_t *rest, size_t length) {
+static void ask(struct kernel *kernel, const char *label, uint8_t type, uint32_t number, const uint8_t *rest,
+                size_t length) {
     uint8_t request[SANIRVOQ_MESSAGE] = {type};
     uint8_t reply[SANIRVOQ_MESSAGE];
     put_word(request + 1, number);
     if (length > 0) {
         memcpy(request + 5, rest, length);
     }
-    expect_accepted(label, sanirvoq_request(&kernel->target, kernel->lent, request, sizeof request, reply, sizeof reply));
+    expect_accepted(label,
+                    sanirvoq_request(&kernel->target, kernel->lent, request, sizeof request, reply, sizeof reply));
     print_label(label);
     print_bytes(request, sizeof request);
     printf(" -> ");

@@ -2,12 +2,13 @@
  *
  * Link libcapi.a, which `rt staticlib capi` writes from what the checker proved (x86-64, System V calling convention).
  *
- * The caller owns everything: the record, the memory window and the register area. The stub keeps nothing of its own, allocates
- * nothing and always returns. The record is plain numbers: any bytes of its size may be handed over, and a record that is not fit
- * is refused with number 3.
+ * The caller owns everything: the record, the memory window and the register area. The stub keeps nothing of its own,
+ * allocates nothing and always returns. The record is plain numbers: any bytes of its size may be handed over, and a
+ * record that is not fit is refused with number 3.
  *
- * What the caller owes: pointers that are valid for the lengths given, for reading and writing; the record and the buffers of one
- * call apart from each other; nobody else changes them during the call. A buffer of length 0 may have any pointer that is not null.
+ * What the caller owes: pointers that are valid for the lengths given, for reading and writing; the record and the
+ * buffers of one call apart from each other; nobody else changes them during the call. A buffer of length 0 may have
+ * any pointer that is not null.
  */
 #ifndef SANIRVOQ_H
 #define SANIRVOQ_H
@@ -30,7 +31,8 @@ enum {
     SANIRVOQ_ENTRIES = 8,
     SANIRVOQ_ELEMENTS = 16,
     SANIRVOQ_MESSAGE = 10, /* bytes of a request and of a reply */
-    SANIRVOQ_BLOCK = 136   /* bytes of a process's saved registers: 32 registers, status, pc, four bytes each, high-order first */
+    SANIRVOQ_BLOCK = 136   /* bytes of a process's saved registers: 32 registers, status, pc, four bytes each,
+                            * high-order first */
 };
 
 /* One element of a condition: a letter, and the value of `k` and `p`. */
@@ -70,7 +72,8 @@ struct sanirvoq_process {
     uint8_t wanted;
 };
 
-/* The record: the window's address and size, the processes, the current process where `selected` is 1, the breakpoints. */
+/* The record: the window's address and size, the processes, the current process where `selected` is 1, the
+ * breakpoints. */
 struct sanirvoq_target {
     uint32_t base;
     uint32_t size;
@@ -98,25 +101,28 @@ enum sanirvoq_number {
     SANIRVOQ_NO_MESSAGE = 7
 };
 
-/* What every step returns: the number in the lowest byte, then the three bytes of the answer. Where the number is not 0 the
- * answer is 0, and but for a setup nothing was changed: no byte of memory, no saved register, nothing in the record or the reply. */
+/* What every step returns: the number in the lowest byte, then the three bytes of the answer. Where the number is not
+ * 0 the answer is 0, and but for a setup nothing was changed: no byte of memory, no saved register, nothing in the
+ * record or the reply. */
 static inline uint8_t sanirvoq_number(uint32_t result) { return (uint8_t)result; }
 
-/* Of a trap: 1 Stop (then sanirvoq_first is the breakpoint's id), 2 Pass (then sanirvoq_first and sanirvoq_second are the plain
- * bytes of the instruction, to be run elsewhere). Of a schedule event: 1 the process is to stop, 0 not. Of other steps: 0. */
+/* Of a trap: 1 Stop (then sanirvoq_first is the breakpoint's id), 2 Pass (then sanirvoq_first and sanirvoq_second are
+ * the plain bytes of the instruction, to be run elsewhere). Of a schedule event: 1 the process is to stop, 0 not. Of
+ * other steps: 0. */
 static inline uint8_t sanirvoq_answer(uint32_t result) { return (uint8_t)(result >> 8); }
 static inline uint8_t sanirvoq_first(uint32_t result) { return (uint8_t)(result >> 16); }
 static inline uint8_t sanirvoq_second(uint32_t result) { return (uint8_t)(result >> 24); }
 
 /* ---- the steps, as they are proved: all of one form ----
  *
- * Each takes the record, the memory window, the register area (136 bytes for each process), a pid, a byte, an input and a reply
- * buffer, and says below which of the last four it uses. What it does not use it leaves as it is. */
-typedef uint32_t sanirvoq_step(struct sanirvoq_target *target, uint8_t *memory, size_t memory_length, uint8_t *registers,
-                               size_t registers_length, uint32_t pid, uint8_t value, const uint8_t *input, size_t input_length,
-                               uint8_t *reply, size_t reply_length);
+ * Each takes the record, the memory window, the register area (136 bytes for each process), a pid, a byte, an input
+ * and a reply buffer, and says below which of the last four it uses. What it does not use it leaves as it is. */
+typedef uint32_t sanirvoq_step(struct sanirvoq_target *target, uint8_t *memory, size_t memory_length,
+                               uint8_t *registers, size_t registers_length, uint32_t pid, uint8_t value,
+                               const uint8_t *input, size_t input_length, uint8_t *reply, size_t reply_length);
 
-/* Takes base, size, count and the pids and addresses of the first count processes from the record, and makes the rest of it. */
+/* Takes base, size, count and the pids and addresses of the first count processes from the record, and makes the rest
+ * of it. */
 sanirvoq_step sanirvoq_step_setup;
 /* Uses input (a request of ten bytes) and reply (ten bytes). */
 sanirvoq_step sanirvoq_step_request;
@@ -139,10 +145,11 @@ struct sanirvoq_lent {
     size_t registers_length;
 };
 
-/* A setup: a window of size bytes at base, and count processes with their pids and Proc addresses. Answers 0, 1 or 2; unless it
- * is 0 the record is empty afterwards. More than four processes are number 1. */
-static inline uint8_t sanirvoq_setup(struct sanirvoq_target *target, struct sanirvoq_lent lent, uint32_t base, uint32_t size,
-                                     const uint32_t *pids, const uint32_t *addresses, uint32_t count) {
+/* A setup: a window of size bytes at base, and count processes with their pids and Proc addresses. Answers 0, 1 or 2;
+ * unless it is 0 the record is empty afterwards. More than four processes are number 1. */
+static inline uint8_t sanirvoq_setup(struct sanirvoq_target *target, struct sanirvoq_lent lent, uint32_t base,
+                                     uint32_t size, const uint32_t *pids, const uint32_t *addresses,
+                                     uint32_t count) {
     uint8_t none = 0;
     memset(target, 0, sizeof *target);
     target->base = base;
@@ -152,54 +159,59 @@ static inline uint8_t sanirvoq_setup(struct sanirvoq_target *target, struct sani
         target->processes[i].pid = pids[i];
         target->processes[i].address = addresses[i];
     }
-    return sanirvoq_number(sanirvoq_step_setup(target, lent.memory, lent.memory_length, lent.registers, lent.registers_length, 0,
-                                               0, &none, 0, &none, 0));
+    return sanirvoq_number(sanirvoq_step_setup(target, lent.memory, lent.memory_length, lent.registers,
+                                               lent.registers_length, 0, 0, &none, 0, &none, 0));
 }
 
 /* A request of ten bytes, answered in ten. Answers 0, 2 or 3. */
-static inline uint8_t sanirvoq_request(struct sanirvoq_target *target, struct sanirvoq_lent lent, const uint8_t *request,
-                                       size_t request_length, uint8_t *reply, size_t reply_length) {
-    return sanirvoq_number(sanirvoq_step_request(target, lent.memory, lent.memory_length, lent.registers, lent.registers_length,
-                                                 0, 0, request, request_length, reply, reply_length));
+static inline uint8_t sanirvoq_request(struct sanirvoq_target *target, struct sanirvoq_lent lent,
+                                       const uint8_t *request, size_t request_length, uint8_t *reply,
+                                       size_t reply_length) {
+    return sanirvoq_number(sanirvoq_step_request(target, lent.memory, lent.memory_length, lent.registers,
+                                                 lent.registers_length, 0, 0, request, request_length, reply,
+                                                 reply_length));
 }
 
 /* A process ran into a trap, with these registers. Answers a result: numbers 0, 2 to 6, and Stop or Pass. */
 static inline uint32_t sanirvoq_trap(struct sanirvoq_target *target, struct sanirvoq_lent lent, uint32_t pid,
                                      const uint8_t *block, size_t block_length) {
     uint8_t none = 0;
-    return sanirvoq_step_trap(target, lent.memory, lent.memory_length, lent.registers, lent.registers_length, pid, 0, block,
-                              block_length, &none, 0);
+    return sanirvoq_step_trap(target, lent.memory, lent.memory_length, lent.registers, lent.registers_length, pid, 0,
+                              block, block_length, &none, 0);
 }
 
-/* The kernel is about to run a process, with these registers. Answers a result: numbers 0, 2 to 4, and whether it is to stop. */
+/* The kernel is about to run a process, with these registers. Answers a result: numbers 0, 2 to 4, and whether it is
+ * to stop. */
 static inline uint32_t sanirvoq_schedule(struct sanirvoq_target *target, struct sanirvoq_lent lent, uint32_t pid,
                                          const uint8_t *block, size_t block_length) {
     uint8_t none = 0;
-    return sanirvoq_step_schedule(target, lent.memory, lent.memory_length, lent.registers, lent.registers_length, pid, 0, block,
-                                  block_length, &none, 0);
+    return sanirvoq_step_schedule(target, lent.memory, lent.memory_length, lent.registers, lent.registers_length, pid,
+                                  0, block, block_length, &none, 0);
 }
 
 /* The kernel gives a process another state. Answers 0, 2 to 5. */
-static inline uint8_t sanirvoq_state(struct sanirvoq_target *target, struct sanirvoq_lent lent, uint32_t pid, uint8_t value) {
+static inline uint8_t sanirvoq_state(struct sanirvoq_target *target, struct sanirvoq_lent lent, uint32_t pid,
+                                     uint8_t value) {
     uint8_t none = 0;
-    return sanirvoq_number(sanirvoq_step_state(target, lent.memory, lent.memory_length, lent.registers, lent.registers_length,
-                                               pid, value, &none, 0, &none, 0));
+    return sanirvoq_number(sanirvoq_step_state(target, lent.memory, lent.memory_length, lent.registers,
+                                               lent.registers_length, pid, value, &none, 0, &none, 0));
 }
 
 /* The debug session begins anew: every trap's plain bytes go back. Answers 0, 2 or 3; the reply is Rerr reset. */
 static inline uint8_t sanirvoq_restart(struct sanirvoq_target *target, struct sanirvoq_lent lent, uint8_t *reply,
                                        size_t reply_length) {
     uint8_t none = 0;
-    return sanirvoq_number(sanirvoq_step_restart(target, lent.memory, lent.memory_length, lent.registers, lent.registers_length,
-                                                 0, 0, &none, 0, reply, reply_length));
+    return sanirvoq_number(sanirvoq_step_restart(target, lent.memory, lent.memory_length, lent.registers,
+                                                 lent.registers_length, 0, 0, &none, 0, reply, reply_length));
 }
 
 /* ---- messages, for the host's side too ---- */
 
-/* A message by its type byte and its fields. A field that the type does not use is ignored when it is written and 0 when it is
- * read. value: the address of Tmget, Tmput and Rproc, the pid of Tproc, Tstatus, Trnote, Tstop and Tstart, the val of Tcondbreak.
- * n: the count of Tmget and Tmput. op: the letter of Tcondbreak. code: the state byte of Rstatus, the reason of Rerr (0 reset,
- * 1 count, 2 unk, 3 inval, 4 pid, 5 unsup, 6 notstop). bytes: the nine of Rmget, the first four of Tmput. */
+/* A message by its type byte and its fields. A field that the type does not use is ignored when it is written and 0
+ * when it is read. value: the address of Tmget, Tmput and Rproc, the pid of Tproc, Tstatus, Trnote, Tstop and Tstart,
+ * the val of Tcondbreak. n: the count of Tmget and Tmput. op: the letter of Tcondbreak. code: the state byte of
+ * Rstatus, the reason of Rerr (0 reset, 1 count, 2 unk, 3 inval, 4 pid, 5 unsup, 6 notstop). bytes: the nine of Rmget,
+ * the first four of Tmput. */
 struct sanirvoq_fields {
     uint8_t kind;
     uint8_t n;
@@ -216,12 +228,12 @@ struct sanirvoq_found {
 
 SANIRVOQ_ASSERT(sizeof(struct sanirvoq_fields) == 20, "the size of a message's fields");
 
-/* Writes a message's ten bytes. Answers 0, or 2 where the buffer is not ten bytes, or 7 where the fields are no message; then
- * the buffer is as it was. */
+/* Writes a message's ten bytes. Answers 0, or 2 where the buffer is not ten bytes, or 7 where the fields are no
+ * message; then the buffer is as it was. */
 uint8_t sanirvoq_write(struct sanirvoq_fields fields, uint8_t *buffer, size_t length);
 
-/* Reads ten bytes. number: 0 and the message's fields, or 2 where the buffer is not ten bytes, or 7 where the bytes are those of
- * no message; then the fields are all 0. */
+/* Reads ten bytes. number: 0 and the message's fields, or 2 where the buffer is not ten bytes, or 7 where the bytes
+ * are those of no message; then the fields are all 0. */
 struct sanirvoq_found sanirvoq_read(const uint8_t *bytes, size_t length);
 
 #ifdef __cplusplus

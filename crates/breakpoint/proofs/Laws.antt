@@ -48,11 +48,13 @@ shaped-of t vs h =
     }
 
 -- what a step starts from is a good record
-pub ready-good : (t : Target) (vs : List Val) (s : Scan) (mem regs : List ℕ) → Is target.the-row t vs → Ready house t s mem regs → Good house t mem
+pub ready-good : (t : Target) (vs : List Val) (s : Scan) (mem regs : List ℕ) → Is target.the-row t vs
+    → Ready house t s mem regs → Good house t mem
 ready-good t vs s mem regs h r = record { shaped = shaped-of t vs h; fit = r .fit; sized = r .memory }
 
 -- its breakpoints can be found
-pub ready-findable : (t : Target) (vs : List Val) (s : Scan) (mem regs : List ℕ) → Is target.the-row t vs → Ready house t s mem regs → Findable t s
+pub ready-findable : (t : Target) (vs : List Val) (s : Scan) (mem regs : List ℕ) → Is target.the-row t vs
+    → Ready house t s mem regs → Findable t s
 ready-findable t vs s mem regs h r =
     let g = ready-good t vs s mem regs h r in
     let f = facts-of t mem g in
@@ -66,7 +68,8 @@ ready-findable t vs s mem regs h r =
 
 module _ (base address : ℕ) (low : base ≤ address) (even : (address - base) % 2 ≡ 0) where
   -- an entry's slot covers the offset where the entry is at the address
-  slot-at : (e : Entry) → (isFree e ≡ false → base ≤ e .site) → eqb (siteOver 2 (address - base)) (siteOf base e) ≡ isAt address e
+  slot-at : (e : Entry) → (isFree e ≡ false → base ≤ e .site) → eqb (siteOver 2 (address - base)) (siteOf base e)
+      ≡ isAt address e
   unfolding siteOf siteOver isAt
   slot-at e h = by (isFree e) refl
     where
@@ -74,10 +77,14 @@ module _ (base address : ℕ) (low : base ≤ address) (even : (address - base) 
       by true u = rw u (ne-eqb (siteOver 2 (address - base)) 1 (λ p. omega arith))
       by false u =
           let l : base ≤ e .site = h u in
-          rw u (on-same (e .site) address (λ p. rw (eq-eqb (e .site) address p) (eq-eqb (siteOver 2 (address - base)) (e .site - base) (omega arith))) (λ n. rw (ne-eqb (e .site) address n) (ne-eqb (siteOver 2 (address - base)) (e .site - base) (λ p. n (omega arith)))))
+          rw u (on-same (e .site) address
+          (λ p. rw (eq-eqb (e .site) address p) (eq-eqb (siteOver 2 (address - base)) (e .site - base) (omega arith)))
+          (λ n. rw (ne-eqb (e .site) address n)
+          (ne-eqb (siteOver 2 (address - base)) (e .site - base) (λ p. n (omega arith)))))
 
   -- so the first slot that covers the offset is the first breakpoint at the address
-  pub slot-found : (es : List Entry) → ((k : ℕ) → k < length es → isFree (entryAt es k) ≡ false → base ≤ entryAt es k .site)
+  pub slot-found : (es : List Entry)
+      → ((k : ℕ) → k < length es → isFree (entryAt es k) ≡ false → base ≤ entryAt es k .site)
       → slotOf 2 (sitesOf base es) (address - base) ≡ breakpointAt es address
   unfolding slotOf sitesOf breakpointAt
   slot-found es h = first-map _ (siteOf base) (isAt address) es noEntry (λ k l. slot-at (entryAt es k) (h k l))
@@ -86,10 +93,12 @@ module _ (t : Target) (s : Scan) (f : Findable t s) (address : ℕ) where
   -- the slot of an even offset finds the breakpoint
   pub at-even : t .base ≤ address → (address - t .base) % 2 ≡ 0
       → slotOf 2 (s .sites) (address - t .base) ≡ breakpointAt (t .table .entries) address
-  at-even low even = rw (f .traps) (slot-found (t .base) address low even (t .table .entries) (λ k h u. f .placed k h u .1))
+  at-even low even = rw (f .traps)
+      (slot-found (t .base) address low even (t .table .entries) (λ k h u. f .placed k h u .1))
 
   -- an address that no used entry can have is none's
-  pub at-none : length (t .table .entries) ≡ 8 → (t .base ≤ address → address % 2 ≡ 0 → ⊥) → 8 ≡ breakpointAt (t .table .entries) address
+  pub at-none : length (t .table .entries) ≡ 8 → (t .base ≤ address → address % 2 ≡ 0 → ⊥)
+      → 8 ≡ breakpointAt (t .table .entries) address
   unfolding breakpointAt
   at-none eight never =
       let es = t .table .entries in

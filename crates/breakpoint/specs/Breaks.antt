@@ -7,6 +7,7 @@ use Rattle.target_fit.specs.Fit.{entryAt}
 use Rattle.target_fit.specs.declared.Scan.{Scan}
 use Rattle.rules.specs.Breakpoint.{sites, plains}
 use Rattle.target.specs.Free.{isFree}
+use Rattle.target.specs.Limits.{maxEntries}
 use Rattle.target.specs.declared.Target.{Target}
 
 -- the sites as an array, the window at an even address, and each breakpoint at an even one that is not below it
@@ -20,5 +21,5 @@ pub record Findable (t : Target) (s : Scan) : Type 0 where
 pub record Removable (t : Target) (s : Scan) (k : ℕ) : Type 0 where
   pub traps : s .sites ≡ sites t
   pub plain : s .plain ≡ plains t
-  pub below : k < 8
+  pub below : k < maxEntries
   pub used : isFree (entryAt (t .table .entries) k) ≡ false

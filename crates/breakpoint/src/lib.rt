@@ -1,7 +1,8 @@
-// Breakpoints: finding the one at an address, and putting its plain bytes back, over a fit record and its table as arrays.
-use target_fit::Scan;
+// Breakpoints: finding the one at an address, and putting its plain bytes back, over a fit record and its table as
+// arrays.
 use target::Table;
 use target::Target;
+use target_fit::Scan;
 ghost use mathlib.Core.Path.{_≡_};
 ghost use mathlib.Core.List.{List};
 ghost use Prim.Native.Nat.{ℕ};
@@ -29,10 +30,8 @@ pub fn breakpoint_at(t: Target, s: Scan, address: u32) -> usize
 // Puts the plain bytes of the breakpoint at an index back.
 pub fn put_back(t: Target, s: Scan, mem: &mut [u8], k: usize)
     requires { ⌜ Removable t s k ⌝ }
-    ensures {
-        λ _. ⌜ ((regs : List ℕ)
-        → world (withoutEntry t k) (now (mem .exit)) regs ≡ removed (world t (now (mem .entry)) regs) k) ⌝
-    }
+    ensures { λ _. ⌜ ((regs : List ℕ)
+        → world (withoutEntry t k) (now (mem .exit)) regs ≡ removed (world t (now (mem .entry)) regs) k) ⌝ }
 {
     let sites = s.sites;
     let plain = s.plain;

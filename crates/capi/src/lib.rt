@@ -1,11 +1,12 @@
 // The steps for kernels in C and Rust, over a record that the caller owns. include/sanirvoq.h is the same for C.
 //
-// Every exported step has one form: the record, the memory, the register area, a pid, a byte, an input and a reply. What a step does
-// not use it leaves as it is. A setup gives back a whole record, which is stored. All other steps go through one function, `capi_lent::step`.
-use wire_fields::Fields;
-use wire_fields::Found;
+// Every exported step has one form: the record, the memory, the register area, a pid, a byte, an input and a reply.
+// What a step does not use it leaves as it is. A setup gives back a whole record, which is stored. All other steps go
+// through one function, `capi_lent::step`.
 use step::StepKind;
 use target::Target;
+use wire_fields::Fields;
+use wire_fields::Found;
 ghost use mathlib.Core.Path.{_≡_};
 ghost use Rattle.wire_fields.specs.Fields.{writeFields, foundBy};
 ghost use Rattle.memory.specs.Head.{house};
@@ -25,7 +26,9 @@ pub extern "C" fn sanirvoq_step_setup(
     input: &[u8],
     reply: &mut [u8],
 ) -> u32
-    ensures { λ r. ⌜ seen r (now (t .exit)) (now (mem .exit)) (now (regs .exit)) (now (reply .exit)) ≡ seenOf (leaving (now (reply .entry)) (setupFrom (world (now (t .entry)) (now (mem .entry)) (now (regs .entry))))) ⌝ }
+    ensures { λ r. ⌜ seen r (now (t .exit)) (now (mem .exit)) (now (regs .exit)) (now (reply .exit))
+        ≡ seenOf (leaving (now (reply .entry))
+        (setupFrom (world (now (t .entry)) (now (mem .entry)) (now (regs .entry))))) ⌝ }
 {
     let d = capi_results::setup(*t, mem, regs, pid, value, input, reply);
     *t = d.target;
@@ -43,7 +46,9 @@ pub extern "C" fn sanirvoq_step_request(
     input: &[u8],
     reply: &mut [u8],
 ) -> u32
-    ensures { λ r. ⌜ seen r (now (t .exit)) (now (mem .exit)) (now (regs .exit)) (now (reply .exit)) ≡ seenOf (requestOf house (world (now (t .entry)) (now (mem .entry)) (now (regs .entry))) (now (input .entry)) (now (reply .entry))) ⌝ }
+    ensures { λ r. ⌜ seen r (now (t .exit)) (now (mem .exit)) (now (regs .exit)) (now (reply .exit))
+        ≡ seenOf (requestOf house (world (now (t .entry)) (now (mem .entry)) (now (regs .entry))) (now (input .entry))
+        (now (reply .entry))) ⌝ }
 {
     capi_lent::step(t, StepKind::Request, mem, regs, pid, value, input, reply)
 }
@@ -59,7 +64,9 @@ pub extern "C" fn sanirvoq_step_trap(
     input: &[u8],
     reply: &mut [u8],
 ) -> u32
-    ensures { λ r. ⌜ seen r (now (t .exit)) (now (mem .exit)) (now (regs .exit)) (now (reply .exit)) ≡ seenOf (leaving (now (reply .entry)) (trapOf house (world (now (t .entry)) (now (mem .entry)) (now (regs .entry))) pid (now (input .entry)))) ⌝ }
+    ensures { λ r. ⌜ seen r (now (t .exit)) (now (mem .exit)) (now (regs .exit)) (now (reply .exit))
+        ≡ seenOf (leaving (now (reply .entry))
+        (trapOf house (world (now (t .entry)) (now (mem .entry)) (now (regs .entry))) pid (now (input .entry)))) ⌝ }
 {
     capi_lent::step(t, StepKind::Trap, mem, regs, pid, value, input, reply)
 }
@@ -75,7 +82,9 @@ pub extern "C" fn sanirvoq_step_schedule(
     input: &[u8],
     reply: &mut [u8],
 ) -> u32
-    ensures { λ r. ⌜ seen r (now (t .exit)) (now (mem .exit)) (now (regs .exit)) (now (reply .exit)) ≡ seenOf (leaving (now (reply .entry)) (scheduleOf house (world (now (t .entry)) (now (mem .entry)) (now (regs .entry))) pid (now (input .entry)))) ⌝ }
+    ensures { λ r. ⌜ seen r (now (t .exit)) (now (mem .exit)) (now (regs .exit)) (now (reply .exit))
+        ≡ seenOf (leaving (now (reply .entry))
+        (scheduleOf house (world (now (t .entry)) (now (mem .entry)) (now (regs .entry))) pid (now (input .entry)))) ⌝ }
 {
     capi_lent::step(t, StepKind::Schedule, mem, regs, pid, value, input, reply)
 }
@@ -91,7 +100,9 @@ pub extern "C" fn sanirvoq_step_state(
     input: &[u8],
     reply: &mut [u8],
 ) -> u32
-    ensures { λ r. ⌜ seen r (now (t .exit)) (now (mem .exit)) (now (regs .exit)) (now (reply .exit)) ≡ seenOf (leaving (now (reply .entry)) (stateOf house (world (now (t .entry)) (now (mem .entry)) (now (regs .entry))) pid value)) ⌝ }
+    ensures { λ r. ⌜ seen r (now (t .exit)) (now (mem .exit)) (now (regs .exit)) (now (reply .exit))
+        ≡ seenOf (leaving (now (reply .entry))
+        (stateOf house (world (now (t .entry)) (now (mem .entry)) (now (regs .entry))) pid value)) ⌝ }
 {
     capi_lent::step(t, StepKind::State, mem, regs, pid, value, input, reply)
 }
@@ -107,7 +118,9 @@ pub extern "C" fn sanirvoq_step_restart(
     input: &[u8],
     reply: &mut [u8],
 ) -> u32
-    ensures { λ r. ⌜ seen r (now (t .exit)) (now (mem .exit)) (now (regs .exit)) (now (reply .exit)) ≡ seenOf (restartOf house (world (now (t .entry)) (now (mem .entry)) (now (regs .entry))) (now (reply .entry))) ⌝ }
+    ensures { λ r. ⌜ seen r (now (t .exit)) (now (mem .exit)) (now (regs .exit)) (now (reply .exit))
+        ≡ seenOf (restartOf house (world (now (t .entry)) (now (mem .entry)) (now (regs .entry)))
+        (now (reply .entry))) ⌝ }
 {
     capi_lent::step(t, StepKind::Restart, mem, regs, pid, value, input, reply)
 }

@@ -1,7 +1,8 @@
-// Every step but the setup over a record that its caller owns: the record is handed over by value, and just the parts that change are stored.
+// Every step but the setup over a record that its caller owns: the record is handed over by value, and just the parts
+// that change are stored.
 //
-// One function for all steps, because the compiler copies the record once more for every function that is called from several places and
-// takes it by value.
+// One function for all steps, because the compiler copies the record once more for every function that is called from
+// several places and takes it by value.
 use capi_parts::Left;
 use step::StepKind;
 use target::Table;
@@ -12,7 +13,8 @@ ghost use Rattle.capi_results.specs.Seen.{seen, seenOf};
 ghost use Rattle.rules.specs.Outcome.{world};
 ghost use Rattle.step.specs.Kinds.{stepBy};
 
-// ---- the parts that change, stored in a record that is lent: one function for each part, which then hands the record on
+// ---- the parts that change, stored in a record that is lent: one function for each part, which then hands the record
+// on
 
 fn store_draft(t: &mut Target, d: Left) -> u32
     ensures { λ r. ⌜ (r ≡ d .result) × (now (t .exit) ≡ storeDraft d (now (t .entry))) ⌝ }
@@ -33,7 +35,8 @@ fn store_fresh(t: &mut Target, d: Left) -> u32
 }
 
 fn store_plains(t: &mut Target, d: Left) -> u32
-    ensures { λ r. ⌜ (r ≡ d .result) × (now (t .exit) ≡ storeDraft d (storeFresh d (storePlains d (now (t .entry))))) ⌝ }
+    ensures { λ r. ⌜ (r ≡ d .result)
+        × (now (t .exit) ≡ storeDraft d (storeFresh d (storePlains d (now (t .entry))))) ⌝ }
 {
     if d.plains {
         t.table.entries = capi_parts::plains_left(t.table.entries, d);
@@ -42,7 +45,8 @@ fn store_plains(t: &mut Target, d: Left) -> u32
 }
 
 fn store_entry(t: &mut Target, d: Left) -> u32
-    ensures { λ r. ⌜ (r ≡ d .result) × (now (t .exit) ≡ storeDraft d (storeFresh d (storePlains d (storeEntry d (now (t .entry)))))) ⌝ }
+    ensures { λ r. ⌜ (r ≡ d .result)
+        × (now (t .exit) ≡ storeDraft d (storeFresh d (storePlains d (storeEntry d (now (t .entry)))))) ⌝ }
 {
     if d.entry {
         let k = capi_parts::index_left(t.table, d);
@@ -74,7 +78,9 @@ pub fn step(
     input: &[u8],
     reply: &mut [u8],
 ) -> u32
-    ensures { λ r. ⌜ seen r (now (t .exit)) (now (mem .exit)) (now (regs .exit)) (now (reply .exit)) ≡ seenOf (stepBy kind (world (now (t .entry)) (now (mem .entry)) (now (regs .entry))) pid value (now (input .entry)) (now (reply .entry))) ⌝ }
+    ensures { λ r. ⌜ seen r (now (t .exit)) (now (mem .exit)) (now (regs .exit)) (now (reply .exit))
+        ≡ seenOf (stepBy kind (world (now (t .entry)) (now (mem .entry)) (now (regs .entry))) pid value
+        (now (input .entry)) (now (reply .entry))) ⌝ }
 {
     let d = capi_results::step_of(*t, kind, mem, regs, pid, value, input, reply);
     store(t, d)

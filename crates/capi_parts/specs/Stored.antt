@@ -25,7 +25,8 @@ storePlains d t = cond (d .plains) (withEntries t (withPlains (t .table .entries
 unfoldable pub storeEntry : Left → Target → Target
 storeEntry d t =
     cond (d .entry)
-    (withEntries t (set (t .table .entries) (indexAfter (t .table) (d .change)) (entryAfter (t .table .draft) (d .change))))
+    (withEntries t (set (t .table .entries) (indexAfter (t .table) (d .change))
+    (entryAfter (t .table .draft) (d .change))))
     t
 
 -- what stands beside the table: the processes and the current one

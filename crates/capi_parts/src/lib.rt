@@ -1,4 +1,5 @@
-// What a step leaves of the record, for a caller that has the record in its own memory and stores just the parts that change.
+// What a step leaves of the record, for a caller that has the record in its own memory and stores just the parts that
+// change.
 use step_effect::Change;
 use target::Draft;
 use target::Entry;
@@ -25,7 +26,11 @@ pub struct Left {
 
 // ---- the parts after a step, of a record by value
 
-pub fn processes_left(count: u32, ps: [Process; Target::PROCESSES], d: Left) -> [Process; Target::PROCESSES]
+pub fn processes_left(
+    count: u32,
+    ps: [Process; Target::PROCESSES],
+    d: Left,
+) -> [Process; Target::PROCESSES]
     ensures { λ r. ⌜ r ≡ processesAfter count ps (d .change) ⌝ }
 {
     let change = d.change;

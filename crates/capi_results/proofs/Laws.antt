@@ -9,7 +9,8 @@ use Rattle.capi_parts.specs.declared.Left.{Left}
 use Rattle.step_effect.specs.Change.{applied}
 use Rattle.rules.specs.Record.{withTable, withDraft, withEntries, withCurrent, withProcesses, setState}
 use Rattle.step_effect.specs.declared.Change.{Change}
-use Rattle.step_effect.specs.declared.Change.the-variants.{Same, Plain, Current, State, Begin, Add, Drop, Plant, Remove, Start, Restart}
+use Rattle.step_effect.specs.declared.Change.the-variants.{Same, Plain, Current, State, Begin, Add, Drop, Plant, Remove}
+use Rattle.step_effect.specs.declared.Change.the-variants.{Start, Restart}
 use Rattle.target.specs.declared.Target.{Target}
 use Rattle.capi_results.specs.Seen.{Seen, seen}
 use Rattle.capi_results.specs.Touched.{touchedOf}
@@ -27,8 +28,10 @@ leftBy result p c plain = record {
   plain = plain;
 }
 
-pub stored : (result : ℕ) (c : Change) (plain : List ℕ) (t : Target) → afterOf t (leftBy result (touchedOf c) c plain) ≡ applied t c plain
-unfolding afterOf storeBeside storeEntry storePlains storeFresh storeDraft touchedOf applied holding processesAfter selectedAfter currentAfter draftAfter
+pub stored : (result : ℕ) (c : Change) (plain : List ℕ) (t : Target) → afterOf t (leftBy result (touchedOf c) c plain)
+    ≡ applied t c plain
+unfolding afterOf storeBeside storeEntry storePlains storeFresh storeDraft touchedOf applied holding processesAfter
+    selectedAfter currentAfter draftAfter
     indexAfter entryAfter withTable withDraft withEntries withCurrent withProcesses setState
 stored result Same plain t = refl
 stored result Plain plain t = refl
@@ -43,6 +46,7 @@ stored result (Start i k) plain t = refl
 stored result Restart plain t = refl
 
 -- a result and a record in the place of their equals
-pub seen-same : (n m : ℕ) (t u : Target) (mem regs reply : List ℕ) (o : Seen) → n ≡ m → t ≡ u → seen m u mem regs reply ≡ o
+pub seen-same : (n m : ℕ) (t u : Target) (mem regs reply : List ℕ) (o : Seen) → n ≡ m → t ≡ u
+    → seen m u mem regs reply ≡ o
     → seen n t mem regs reply ≡ o
 seen-same n m t u mem regs reply o p q r = rw (p, q) r

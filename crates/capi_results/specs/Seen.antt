@@ -10,7 +10,8 @@ use Rattle.rules.specs.Step.{setupOf}
 use Rattle.target.specs.declared.Process.{Process}
 use Rattle.target.specs.declared.Target.{Target}
 
--- four bytes, the number lowest, then the bytes of the answer (01, "01 id or 02 and two bytes" of a trap, "00 or 01" of a schedule event)
+-- four bytes, the number lowest, then the bytes of the answer (01, "01 id or 02 and two bytes" of a trap, "00 or 01" of
+-- a schedule event)
 unfoldable pub packed : ℕ → List ℕ → ℕ
 packed number bytes = ofHighFirst (getD bytes 2 0 ∷ getD bytes 1 0 ∷ getD bytes 0 0 ∷ number ∷ [])
 

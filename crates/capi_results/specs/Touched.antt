@@ -1,7 +1,8 @@
 -- Which parts of the record a change is about. A fresh table has its condition in hand closed already.
 use mathlib.Core.Bool.{true, false}
 use Rattle.step_effect.specs.declared.Change.{Change}
-use Rattle.step_effect.specs.declared.Change.the-variants.{Same, Plain, Current, State, Begin, Add, Drop, Plant, Remove, Start, Restart}
+use Rattle.step_effect.specs.declared.Change.the-variants.{Same, Plain, Current, State, Begin, Add, Drop, Plant, Remove}
+use Rattle.step_effect.specs.declared.Change.the-variants.{Start, Restart}
 use Rattle.capi_results.specs.declared.Touched.{Touched}
 
 unfoldable pub touchedOf : Change → Touched

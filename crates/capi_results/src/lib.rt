@@ -21,8 +21,8 @@ pub struct Whole {
     pub target: Target,
 }
 
-// The parts of the record that a change is about: what stands beside the table, one entry, the entries' plain bytes, the whole table
-// afresh, the condition in hand.
+// The parts of the record that a change is about: what stands beside the table, one entry, the entries' plain bytes,
+// the whole table afresh, the condition in hand.
 pub struct Touched {
     pub beside: bool,
     pub entry: bool,
@@ -58,7 +58,8 @@ fn give_whole(d: Done) -> Whole
 
 impl Touched {
     fn of(beside: bool, entry: bool, plains: bool, fresh: bool, draft: bool) -> Touched
-        ensures { λ r. ⌜ r ≡ record { beside = beside; entry = entry; plains = plains; fresh = fresh; draft = draft } ⌝ }
+        ensures { λ r. ⌜ r
+            ≡ record { beside = beside; entry = entry; plains = plains; fresh = fresh; draft = draft } ⌝ }
     {
         Touched {
             beside,
@@ -91,7 +92,8 @@ fn touched_by(c: Change) -> Touched
 
 // A step's effect as the parts to be stored.
 fn leave(e: Effect) -> Left
-    ensures { λ r. ⌜ (r .result ≡ resultOf (e .number) (e .answer)) × ((t : Target) → afterOf t r ≡ applied t (e .change) (e .plain)) ⌝ }
+    ensures { λ r. ⌜ (r .result ≡ resultOf (e .number) (e .answer))
+        × ((t : Target) → afterOf t r ≡ applied t (e .change) (e .plain)) ⌝ }
 {
     let answer = e.answer;
     let change = e.change;
@@ -119,7 +121,8 @@ pub fn setup(
     input: &[u8],
     reply: &mut [u8],
 ) -> Whole
-    ensures { λ r. ⌜ seen (r .result) (r .target) (now (mem .exit)) (now (regs .exit)) (now (reply .exit)) ≡ seenOf (leaving (now (reply .entry)) (setupFrom (world t (now (mem .entry)) (now (regs .entry))))) ⌝ }
+    ensures { λ r. ⌜ seen (r .result) (r .target) (now (mem .exit)) (now (regs .exit)) (now (reply .exit))
+        ≡ seenOf (leaving (now (reply .entry)) (setupFrom (world t (now (mem .entry)) (now (regs .entry))))) ⌝ }
 {
     let ps = t.processes;
     let p0 = ps[0];
@@ -143,7 +146,9 @@ pub fn step_of(
     input: &[u8],
     reply: &mut [u8],
 ) -> Left
-    ensures { λ r. ⌜ seen (r .result) (afterOf t r) (now (mem .exit)) (now (regs .exit)) (now (reply .exit)) ≡ seenOf (stepBy kind (world t (now (mem .entry)) (now (regs .entry))) pid value (now (input .entry)) (now (reply .entry))) ⌝ }
+    ensures { λ r. ⌜ seen (r .result) (afterOf t r) (now (mem .exit)) (now (regs .exit)) (now (reply .exit))
+        ≡ seenOf (stepBy kind (world t (now (mem .entry)) (now (regs .entry))) pid value (now (input .entry))
+        (now (reply .entry))) ⌝ }
 {
     let e = step::step(t, kind, mem, regs, pid, value, input, reply);
     leave(e)

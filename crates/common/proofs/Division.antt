@@ -1,7 +1,8 @@
 -- Place r of part k, among parts of w places each. Assumes nothing.
 use mathlib.Core.Path.{_≡_, _∙_}
 use Prim.Native.Nat.{ℕ, _+_, _*_, _/_, _%_, _<_}
-use native.Mathlib.Nat.{add-zero, mul-le-mul-right, mod-eq-of-lt, div-eq-of-lt, mul-add-div-right, mul-add-mod-self-right}
+use native.Mathlib.Nat.{add-zero, mul-le-mul-right, mod-eq-of-lt, div-eq-of-lt, mul-add-div-right}
+use native.Mathlib.Nat.{mul-add-mod-self-right}
 use native.Mathlib.Omega.{arith}
 
 module _ (w k r : ℕ) (h : r < w) where

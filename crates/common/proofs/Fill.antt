@@ -1,4 +1,5 @@
--- A list that a loop fills from the front: of its m places the first n hold what f says, the others what g says. Assumes nothing.
+-- A list that a loop fills from the front: of its m places the first n hold what f says, the others what g says.
+-- Assumes nothing.
 use mathlib.Core.Path.{_≡_, _∙_}
 use mathlib.Core.Bool.{cond}
 use mathlib.Core.List.{List}
@@ -21,7 +22,8 @@ module _ {A : Type 0} (f g : ℕ → A) (n m : ℕ) where
   -- the other places are as they were
   other : (k : ℕ) → (k ≡ n → ⊥) → cond (ltb k n) (f k) (g k) ≡ cond (ltb k (n + 1)) (f k) (g k)
   other k s =
-      on-less k n (λ h. rw (lt-ltb k n h, lt-ltb k (n + 1) (omega arith))) (λ h. rw (le-ltb k n h, le-ltb k (n + 1) (omega arith)))
+      on-less k n (λ h. rw (lt-ltb k n h, lt-ltb k (n + 1) (omega arith)))
+      (λ h. rw (le-ltb k n h, le-ltb k (n + 1) (omega arith)))
 
   -- one place more
   pub fill-more : set (filled f g n m) n (f n) ≡ filled f g (n + 1) m
@@ -33,7 +35,8 @@ module _ {A : Type 0} (f g : ℕ → A) (n m : ℕ) where
   -- the place may hold that already
   pub fill-keep : g n ≡ f n → filled f g n m ≡ filled f g (n + 1) m
   fill-keep e =
-      tab-ext m _ _ (λ k l. on-same k n (λ s. rw (s, le-ltb n n (omega arith), lt-ltb n (n + 1) (omega arith)) e) (other k))
+      tab-ext m _ _ (λ k l. on-same k n (λ s. rw (s, le-ltb n n (omega arith), lt-ltb n (n + 1) (omega arith)) e)
+      (other k))
 
   -- every place is filled
   pub fill-whole : m ≤ n → filled f g n m ≡ tab m f
@@ -44,7 +47,8 @@ module _ {A : Type 0} (f g : ℕ → A) (n m : ℕ) where
   fill-ext f′ h = tab-ext m _ _ (λ k l. on-less k n (λ s. rw (lt-ltb k n s) (h k s)) (λ s. rw (le-ltb k n s)))
 
 -- nothing is filled
-pub fill-start : {A : Type 0} (f : ℕ → A) (l : List A) (d : A) (m : ℕ) → length l ≡ m → l ≡ filled f (λ k. getD l k d) 0 m
+pub fill-start : {A : Type 0} (f : ℕ → A) (l : List A) (d : A) (m : ℕ) → length l ≡ m
+    → l ≡ filled f (λ k. getD l k d) 0 m
 fill-start f l d m z = tab-is l m _ d z (λ k h. rw (le-ltb k 0 (omega arith)))
 
 pub fill-none : {A : Type 0} (f : ℕ → A) (rest : A) (m : ℕ) → replicate m rest ≡ filled f (λ _. rest) 0 m

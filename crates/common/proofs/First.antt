@@ -42,7 +42,8 @@ first-within f [] = omega arith
 first-within f (x ∷ xs) = either (λ n. n ≤ length (x ∷ xs)) (f x) (omega arith) (omega (arith, first-within f xs))
 
 -- at the place that is found the test holds
-pub first-holds : {A : Type 0} (f : A → Bool) (l : List A) (d : A) → firstOf f l < length l → f (getD l (firstOf f l) d) ≡ true
+pub first-holds : {A : Type 0} (f : A → Bool) (l : List A) (d : A) → firstOf f l < length l
+    → f (getD l (firstOf f l) d) ≡ true
 unfolding firstOf
 first-holds f [] d h = absurd (not-suc-le-zero h)
 first-holds f (x ∷ xs) d h =
@@ -57,14 +58,16 @@ first-map f g p [] d same = refl
 first-map f g p (x ∷ xs) d same = rw (same 0 (omega arith), first-map f g p xs d (λ k h. same (suc k) (omega arith)))
 
 -- a store that the test cannot tell leaves the place
-pub first-set : {A : Type 0} (f : A → Bool) (l : List A) (d : A) (k : ℕ) (y : A) → f y ≡ f (getD l k d) → firstOf f (set l k y) ≡ firstOf f l
+pub first-set : {A : Type 0} (f : A → Bool) (l : List A) (d : A) (k : ℕ) (y : A) → f y ≡ f (getD l k d)
+    → firstOf f (set l k y) ≡ firstOf f l
 unfolding firstOf
 first-set f [] d k y h = refl
 first-set f (x ∷ xs) d zero y h = rw h
 first-set f (x ∷ xs) d (suc k) y h = rw (first-set f xs d k y h)
 
 -- the place that is found is not after one at which the test holds
-pub first-le : {A : Type 0} (f : A → Bool) (l : List A) (d : A) (j : ℕ) → j < length l → f (getD l j d) ≡ true → firstOf f l ≤ j
+pub first-le : {A : Type 0} (f : A → Bool) (l : List A) (d : A) (j : ℕ) → j < length l → f (getD l j d) ≡ true
+    → firstOf f l ≤ j
 unfolding firstOf
 first-le f [] d j h e = absurd (not-suc-le-zero h)
 first-le f (x ∷ xs) d zero h e = rw e (omega arith)
@@ -78,4 +81,5 @@ unfolding firstOf
 first-new f [] d k y e = inr refl
 first-new f (x ∷ xs) d zero y e = on-test (f y) (λ h. inl (rw h)) (λ h. inr (rw (h, e)))
 first-new f (x ∷ xs) d (suc k) y e =
-    on-test (f x) (λ h. inr (rw h)) (λ h. rw h (⊎-elim (λ p. inl (ap suc p)) (λ p. inr (ap suc p)) (first-new f xs d k y e)))
+    on-test (f x) (λ h. inr (rw h))
+    (λ h. rw h (⊎-elim (λ p. inl (ap suc p)) (λ p. inr (ap suc p)) (first-new f xs d k y e)))

@@ -58,7 +58,8 @@ known-of : {A : Type 0} (known : Type 0) (rs : List (Arm A)) (x : ℕ) → NoneO
 known-of known [] x h = h
 known-of known (r ∷ rs) x h = known-of (known × (OneOf (r .keys) x → ⊥)) rs x h .0
 
-none-of : {A : Type 0} (known : Type 0) (rs : List (Arm A)) (other : A) (x : ℕ) → NoneOf known rs x → other ≡ byKeys rs other x
+none-of : {A : Type 0} (known : Type 0) (rs : List (Arm A)) (other : A) (x : ℕ) → NoneOf known rs x
+    → other ≡ byKeys rs other x
 unfolding byKeys
 none-of known [] other x h = refl
 none-of known (r ∷ rs) other x h =
@@ -92,7 +93,8 @@ EachValue P [] = Unit {0}
 EachValue P (r ∷ rs) = P (r .value) × EachValue P rs
 
 -- what holds of every arm's value and of the other holds of the chosen one
-pub chosen : {A : Type 0} (P : A → Type 0) (rs : List (Arm A)) (other : A) (x : ℕ) → EachValue P rs → P other → P (byKeys rs other x)
+pub chosen : {A : Type 0} (P : A → Type 0) (rs : List (Arm A)) (other : A) (x : ℕ) → EachValue P rs → P other
+    → P (byKeys rs other x)
 unfolding byKeys
 chosen P [] other x h o = o
 chosen P (r ∷ rs) other x h o = either P (among (r .keys) x) (h .0) (chosen P rs other x (h .1) o)

@@ -4,7 +4,8 @@ use mathlib.Core.List.{List, [], _∷_, _++_, map, append-nil}
 use Prim.Native.Nat.{ℕ, zero, suc, _+_, _-_, _<_, min}
 use native.Mathlib.Nat.{zero-add}
 use native.Mathlib.Omega.{arith}
-use lib.ListN.{length, getD, set, drop, take, replicate, length-drop, length-take, length-append, length-replicate, drop-of-length-le}
+use lib.ListN.{length, getD, set, drop, take, replicate, length-drop, length-take, length-append, length-replicate}
+use lib.ListN.{drop-of-length-le}
 use lib.Seq.{paste, take-all, take-append-le, getD-take, getD-drop, getD-set-same, getD-set-other}
 use Rattle.common.specs.Bytes.{Bytes}
 use Rattle.common.specs.Text.{padded}

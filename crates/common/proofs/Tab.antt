@@ -22,7 +22,8 @@ module _ {A : Type 0} where
   tab-at (suc n) f d (suc i) h = tab-at n (λ k. f (suc k)) d i (le-of-suc-le-suc h)
 
   -- a list whose elements a function names is that function's list
-  pub tab-is : (l : List A) (n : ℕ) (f : ℕ → A) (d : A) → length l ≡ n → ((i : ℕ) → i < n → getD l i d ≡ f i) → l ≡ tab n f
+  pub tab-is : (l : List A) (n : ℕ) (f : ℕ → A) (d : A) → length l ≡ n → ((i : ℕ) → i < n → getD l i d ≡ f i)
+      → l ≡ tab n f
   tab-is l n f d e h =
       ext-getD d l (tab n f) (e ∙ sym (length-tab n f))
       (λ i g. let k : i < n = omega arith in h i k ∙ sym (tab-at n f d i k))
@@ -39,10 +40,12 @@ module _ {A : Type 0} where
   pub tab-ext : (n : ℕ) (f g : ℕ → A) → ((i : ℕ) → i < n → f i ≡ g i) → tab n f ≡ tab n g
   unfolding tab
   tab-ext zero f g h = refl
-  tab-ext (suc n) f g h = rw (h 0 (omega arith), tab-ext n (λ i. f (suc i)) (λ i. g (suc i)) (λ i k. h (suc i) (omega arith)))
+  tab-ext (suc n) f g h =
+      rw (h 0 (omega arith), tab-ext n (λ i. f (suc i)) (λ i. g (suc i)) (λ i k. h (suc i) (omega arith)))
 
 -- the n elements of a list from place at on
-pub tab-part : {A : Type 0} (l : List A) (d : A) (at n : ℕ) → at + n ≤ length l → take n (drop at l) ≡ tab n (λ i. getD l (at + i) d)
+pub tab-part : {A : Type 0} (l : List A) (d : A) (at n : ℕ) → at + n ≤ length l
+    → take n (drop at l) ≡ tab n (λ i. getD l (at + i) d)
 tab-part l d at n h =
     tab-is (take n (drop at l)) n _ d (simp (length-take, length-drop) (omega arith))
     (λ i g. part-at l at n i d g)

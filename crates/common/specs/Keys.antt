@@ -1,4 +1,5 @@
--- A choice by a number: the value of the first arm that has the number among its keys, as a `match` on a number gives it.
+-- A choice by a number: the value of the first arm that has the number among its keys, as a `match` on a number gives
+-- it.
 use Prim.Native.Nat.{ℕ}
 use mathlib.Core.Bool.{Bool, true, false, cond, _||_}
 use mathlib.Core.List.{List, [], _∷_}

@@ -1,4 +1,5 @@
--- 01, "Steps and numbers": the numbers of its table, each with the words of its row. A later request's number joins here.
+-- 01, "Steps and numbers": the numbers of its table, each with the words of its row. A later request's number joins
+-- here.
 use Prim.Native.Nat.{ℕ}
 
 -- "accepted"

@@ -1,5 +1,5 @@
-// Small functions that several crates use, and the numbers of document 01. Most of this crate is its definitions (specs/) and
-// laws (proofs/).
+// Small functions that several crates use, and the numbers of document 01. Most of this crate is its definitions
+// (specs/) and laws (proofs/).
 ghost use mathlib.Core.Path.{_≡_};
 ghost use mathlib.Core.List.{_∷_, []};
 ghost use Prim.Native.Nat.{_+_, _<_, _≤_, min};
@@ -80,7 +80,8 @@ pub fn all_zero(s: &[u8]) -> bool
 
 // Copies `src` to the front of `dst`, as far as both reach.
 pub fn copy(dst: &mut [u8], src: &[u8])
-    ensures { λ _. ⌜ now (dst .exit) ≡ paste (now (dst .entry)) 0 (now (src .entry)) (min (length (now (dst .entry))) (length (now (src .entry)))) ⌝ }
+    ensures { λ _. ⌜ now (dst .exit) ≡ paste (now (dst .entry)) 0 (now (src .entry)) (min
+        (length (now (dst .entry))) (length (now (src .entry)))) ⌝ }
 {
     let mut i: usize = 0;
     while i < src.len() {

@@ -1,4 +1,5 @@
--- Laws of the elements of a condition taken one after the other, of the depth, and of one element more. Assumes nothing.
+-- Laws of the elements of a condition taken one after the other, of the depth, and of one element more. Assumes
+-- nothing.
 use mathlib.Core.Path.{_≡_, refl, sym, _∙_}
 use mathlib.Core.Bool.{true, cond}
 use mathlib.Core.List.{List, [], _∷_}
@@ -62,7 +63,8 @@ module _ (d letter value r : ℕ) (h : d ≡ 0 → ⊥) where
   after-join k e =
       e ∙ at-keys (λ x. depthAfter d x value) _ joins letter (some _, (some _, (some _, (some _, (some _, tt))))) k
 
-  pub after-other : (OneOf pushes letter → ⊥) → (letter ≡ 42 → ⊥) → (OneOf joins letter → ⊥) → r ≡ 0 → r ≡ depthAfter d letter value
+  pub after-other : (OneOf pushes letter → ⊥) → (letter ≡ 42 → ⊥) → (OneOf joins letter → ⊥) → r ≡ 0
+      → r ≡ depthAfter d letter value
   unfolding depthAfter byKeys among codes
   after-other p l j e =
       rw (
@@ -103,8 +105,13 @@ after-le : (d letter value : ℕ) → depthAfter d letter value ≤ d + 1
 unfolding depthAfter
 after-le d letter value =
     either few (eqb d 0) {a = 0} (omega arith)
-    (chosen few _ 0 letter
-    (omega arith, (either few (eqb value 0) {a = d} {b = 0} (omega arith) (omega arith), (either few (eqb value 0) {a = d - 1} {b = 0} (omega arith) (omega arith), tt)))
+    (chosen few _ 0 letter (
+      omega arith,
+      (
+        either few (eqb value 0) {a = d} {b = 0} (omega arith) (omega arith),
+        (either few (eqb value 0) {a = d - 1} {b = 0} (omega arith) (omega arith), tt),
+      ),
+    )
     (omega arith))
   where
     few : ℕ → Type 0

@@ -46,7 +46,8 @@ module _ (x y : ℕ) (f : Bool) where
 by-letter : (letter : ℕ) (P : ℕ → Type 0) → P 107 → P 112 → P 42
     → ((letter ≡ 107 → ⊥) → (letter ≡ 112 → ⊥) → (letter ≡ 42 → ⊥) → P letter) → P letter
 by-letter letter P k p l other =
-    on-same letter 107 (λ e. rw e k) (λ a. on-same letter 112 (λ e. rw e p) (λ b. on-same letter 42 (λ e. rw e l) (other a b)))
+    on-same letter 107 (λ e. rw e k)
+    (λ a. on-same letter 112 (λ e. rw e p) (λ b. on-same letter 42 (λ e. rw e l) (other a b)))
 
 module _ (read : ℕ → Fetched) (pid letter value : ℕ) (st : List ℕ) where
   -- the value that it puts on the stack, or a read outside the window
@@ -59,14 +60,16 @@ module _ (read : ℕ → Fetched) (pid letter value : ℕ) (st : List ℕ) where
   pub given-outside : escapes read letter st ≡ isOutside given
   unfolding escapes isOutside valueOf
   given-outside =
-      by-letter letter (λ x. escapes read x st ≡ isOutside (valueOf read pid x value (top (rest st)) (top st))) refl refl refl
+      by-letter letter (λ x. escapes read x st ≡ isOutside (valueOf read pid x value (top (rest st)) (top st))) refl
+      refl refl
       (λ a b c. rw (ne-eqb letter 107 a, ne-eqb letter 112 b, ne-eqb letter 42 c))
 
   pub given-word : stackAfter read pid letter value st ≡ wordOf given ∷ leftBy letter st
   unfolding stackAfter wordOf valueOf leftBy
   given-word =
       by-letter letter
-      (λ x. stackAfter read pid x value st ≡ wordOf (valueOf read pid x value (top (rest st)) (top st)) ∷ leftBy x st) refl refl refl
+      (λ x. stackAfter read pid x value st ≡ wordOf (valueOf read pid x value (top (rest st)) (top st)) ∷ leftBy x st)
+      refl refl refl
       (λ a b c. rw (ne-eqb letter 107 a, ne-eqb letter 112 b, ne-eqb letter 42 c))
 
   module _ (found : Fetched) (is : found ≡ given) where
@@ -79,7 +82,8 @@ module _ (read : ℕ → Fetched) (pid letter value : ℕ) (st : List ℕ) where
       unfolding isOutside
       got-inside = sym (given-outside ∙ ap isOutside (sym is ∙ h))
 
-      pub got-stack : (l left : List ℕ) → left ≡ leftBy letter st → l ≡ w ∷ left → l ≡ stackAfter read pid letter value st
+      pub got-stack : (l left : List ℕ) → left ≡ leftBy letter st → l ≡ w ∷ left
+          → l ≡ stackAfter read pid letter value st
       unfolding wordOf
       got-stack l left q p = p ∙ rw (given-word, ← q) (ap (λ (f : Fetched). wordOf f ∷ left) (sym h ∙ is))
 
@@ -89,14 +93,17 @@ module _ (read : ℕ → Fetched) (pid letter value : ℕ) (st : List ℕ) where
 abbrev pub Remains : (ℕ → Fetched) → ℕ → List Element → ℕ → ℕ → List ℕ → Type 0
 Remains read pid l n i st = evaluateOf read pid l n ≡ evalFrom read pid (drop i (take n l)) st
 
-pub remains-all : (read : ℕ → Fetched) (pid : ℕ) (l : List Element) (n : ℕ) (st : List ℕ) → st ≡ 1 ∷ [] → Remains read pid l n 0 st
+pub remains-all : (read : ℕ → Fetched) (pid : ℕ) (l : List Element) (n : ℕ) (st : List ℕ) → st ≡ 1 ∷ []
+    → Remains read pid l n 0 st
 unfolding evaluateOf
 remains-all read pid l n st e = rw e
 
-module _ (read : ℕ → Fetched) (pid : ℕ) (l : List Element) (n i : ℕ) (z : n ≤ length l) (st : List ℕ) (p : Remains read pid l n i st) where
+module _ (read : ℕ → Fetched) (pid : ℕ) (l : List Element) (n i : ℕ) (z : n ≤ length l) (st : List ℕ)
+    (p : Remains read pid l n i st) where
   module _ (out : Bool) (h : i < n) (q : out ≡ escapes read (getD l i noElement .letter) st) where
     pub remains-more : (st' : List ℕ) → out ≡ false
-        → st' ≡ stackAfter read pid (getD l i noElement .letter) (getD l i noElement .value) st → Remains read pid l n (i + 1) st'
+        → st' ≡ stackAfter read pid (getD l i noElement .letter) (getD l i noElement .value) st
+        → Remains read pid l n (i + 1) st'
     unfolding evalFrom
     remains-more st' f s = p ∙ rw (next-element l n i z h, ← q, f, ← s)
 

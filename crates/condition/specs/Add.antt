@@ -18,7 +18,13 @@ roomFor d e =
 
 -- the element after the others
 unfoldable pub withElement : Draft → Element → Draft
-withElement d e = record { active = d .active; id = d .id; count = d .count + 1; elements = set (d .elements) (d .count) e }
+withElement d e = record {
+  active = d .active;
+  id = d .id;
+  count = d .count + 1;
+  elements = set (d .elements) (d .count)
+      e;
+}
 
 unfoldable pub addedBy : Room → Draft → Element → Added
 addedBy Fits d e = record { room = Fits; draft = withElement d e }

@@ -24,7 +24,8 @@ unfoldable pub depthFrom : ℕ → List Element → ℕ
 depthFrom d [] = d
 depthFrom d (e ∷ es) = depthFrom (depthAfter d (e .letter) (e .value)) es
 
--- the depth after the first count elements: "The stack begins with one value .., so depth starts at 1"; 0 where there are over 16
+-- the depth after the first count elements: "The stack begins with one value .., so depth starts at 1"; 0 where there
+-- are over 16
 unfoldable pub depthOf : List Element → ℕ → ℕ
 depthOf es count = cond (leb count maxElements) (depthFrom 1 (take count es)) 0
 

@@ -74,7 +74,8 @@ evalFrom read pid (e ∷ es) st =
 unfoldable pub evaluateOf : (ℕ → Fetched) → ℕ → List Element → ℕ → Bool
 evaluateOf read pid es count = evalFrom read pid (take count es) (1 ∷ [])
 
--- ---- the reader: "* reads the four plain bytes there, low-order first", which is the house's order, over the window at base with its traps
+-- ---- the reader: "* reads the four plain bytes there, low-order first", which is the house's order, over the window
+-- at base with its traps
 
 unfoldable pub fetchOf : Head → List ℕ → List ℕ → List ℕ → ℕ → ℕ → Fetched
 fetchOf h sites plain mem base a =

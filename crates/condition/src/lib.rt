@@ -120,7 +120,13 @@ fn join(letter: u8, x: u32, y: u32) -> u32
 }
 
 // The plain word at an address, low-order first.
-pub fn fetch(mem: &[u8], base: u32, sites: &[u32; Table::ENTRIES], plain: &[u8; Table::PLAIN], a: u32) -> Fetched
+pub fn fetch(
+    mem: &[u8],
+    base: u32,
+    sites: &[u32; Table::ENTRIES],
+    plain: &[u8; Table::PLAIN],
+    a: u32,
+) -> Fetched
     ensures { λ r. ⌜ r ≡ fetchOf house (now (sites .entry)) (now (plain .entry)) (now (mem .entry)) base a ⌝ }
 {
     if a < base {
@@ -148,10 +154,8 @@ fn value_of(
     x: u32,
     y: u32,
 ) -> Fetched
-    ensures {
-        λ r. ⌜ r ≡ valueOf (fetchOf house (now (sites .entry)) (now (plain .entry)) (now (mem .entry)) base) pid
-        (e .letter) (e .value) x y ⌝
-    }
+    ensures { λ r. ⌜ r ≡ valueOf (fetchOf house (now (sites .entry)) (now (plain .entry)) (now (mem .entry)) base) pid
+        (e .letter) (e .value) x y ⌝ }
 {
     let letter = e.letter;
     match letter {
@@ -173,10 +177,8 @@ fn top_at(cells: &[u32; VALUES], at: usize) -> u32
 // Where the stack begins without its top.
 fn below(at: usize) -> usize
     requires { ⌜ at ≤ 17 ⌝ }
-    ensures {
-        λ r. ⌜ (at ≤ r) × (1 ≤ r) × (r ≤ 17)
-        × ((cells : List ℕ) → length cells ≡ 17 → drop r cells ≡ rest (drop at cells)) ⌝
-    }
+    ensures { λ r. ⌜ (at ≤ r) × (1 ≤ r) × (r ≤ 17)
+        × ((cells : List ℕ) → length cells ≡ 17 → drop r cells ≡ rest (drop at cells)) ⌝ }
 {
     if at < VALUES { at + 1 } else { at }
 }
@@ -184,10 +186,8 @@ fn below(at: usize) -> usize
 // Where it begins without the values that an element takes.
 fn stack_without(letter: u8, at: usize) -> usize
     requires { ⌜ (1 ≤ at) × (at ≤ 17) ⌝ }
-    ensures {
-        λ r. ⌜ (at ≤ r) × (r ≤ 17)
-        × ((cells : List ℕ) → length cells ≡ 17 → drop r cells ≡ leftBy letter (drop at cells)) ⌝
-    }
+    ensures { λ r. ⌜ (at ≤ r) × (r ≤ 17)
+        × ((cells : List ℕ) → length cells ≡ 17 → drop r cells ≡ leftBy letter (drop at cells)) ⌝ }
 {
     match letter {
         b'k' => at,
@@ -197,8 +197,8 @@ fn stack_without(letter: u8, at: usize) -> usize
     }
 }
 
-// The truth of the first `count` elements over plain memory, for the trapping process. The stack begins with one value, the
-// truth of the final `b`.
+// The truth of the first `count` elements over plain memory, for the trapping process. The stack begins with one value,
+// the truth of the final `b`.
 pub fn evaluate(
     mem: &[u8],
     base: u32,
@@ -209,10 +209,9 @@ pub fn evaluate(
     count: u32,
 ) -> bool
     requires { ⌜ count ≤ maxElements ⌝ }
-    ensures {
-        λ r. ⌜ r ≡ evaluateOf (fetchOf house (now (sites .entry)) (now (plain .entry)) (now (mem .entry)) base) pid
-        elements count ⌝
-    }
+    ensures { λ r. ⌜ r
+        ≡ evaluateOf (fetchOf house (now (sites .entry)) (now (plain .entry)) (now (mem .entry)) base) pid
+        elements count ⌝ }
 {
     let n = count as usize;
     let mut cells: [u32; VALUES] = [1; VALUES];

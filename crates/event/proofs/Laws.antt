@@ -51,7 +51,8 @@ module _ (w : World) (d : Effect) where
 
   -- a state and a mark that are set
   pub sets-state : (a : Answer) (i value wanted : ℕ) → d ≡ effect 0 a (State i value wanted)
-      → effectOutcome (w .target) d (w .mem) (w .regs) [] ≡ answered a (world (setState (w .target) i value wanted) (w .mem) (w .regs))
+      → effectOutcome (w .target) d (w .mem) (w .regs) []
+      ≡ answered a (world (setState (w .target) i value wanted) (w .mem) (w .regs))
   unfolding answered applied
   sets-state a i value wanted e = rw e
 
@@ -64,7 +65,8 @@ stops w a i block d regs e = rw (← (e .1)) (sets-state (world (w .target) (w .
 
 -- ---- a breakpoint that is found
 
-pub elements-few : (t : Target) (mem : List ℕ) → Good house t mem → (address k : ℕ) → k ≡ breakpointAt (t .table .entries) address → k < 8
+pub elements-few : (t : Target) (mem : List ℕ) → Good house t mem → (address k : ℕ)
+    → k ≡ breakpointAt (t .table .entries) address → k < 8
     → entryAt (t .table .entries) k .count ≤ 16
 elements-few t mem g address k f h =
     let es = t .table .entries in
@@ -127,21 +129,25 @@ module _ (w : World) (pid : ℕ) (a : Lookup) (e : a ≡ findOf (w .target) pid)
         -- by whether the condition of the one that is found holds
         module _ (l : k < 8) (s : Scan) (ok : Ready house (w .target) s (w .mem) (w .regs)) (c : Bool)
             (v : c ≡ (let b = entryAt (w .target .table .entries) k in
-            evaluateOf (fetchOf house (s .sites) (s .plain) (w .mem) (w .target .base)) pid (b .elements) (b .count))) where
-          found : (o : Outcome) → o ≡ trapped house w i pid block (entryAt (w .target .table .entries) k) → o ≡ trap house w pid block
-          unfolding trap isStopped
-          found o q = listed _ _ (rw (ne-eqb _ stopped n, ← p, ← f, eight, lt-ltb k 8 l) q)
+            evaluateOf (fetchOf house (s .sites) (s .plain) (w .mem) (w .target .base)) pid (b .elements) (b .count)))
+          where
+            found : (o : Outcome) → o ≡ trapped house w i pid block (entryAt (w .target .table .entries) k)
+                → o ≡ trap house w pid block
+            unfolding trap isStopped
+            found o q = listed _ _ (rw (ne-eqb _ stopped n, ← p, ← f, eight, lt-ltb k 8 l) q)
 
-          holds-as : holds house w pid (entryAt (w .target .table .entries) k) ≡ c
-          unfolding holds
-          holds-as = sym (rw (ok .sites, ok .plain) at v)
+            holds-as : holds house w pid (entryAt (w .target .table .entries) k) ≡ c
+            unfolding holds
+            holds-as = sym (rw (ok .sites, ok .plain) at v)
 
-          pub trap-stop : c ≡ true → answered (Stop (entryAt (w .target .table .entries) k .id)) (stopWith w i block) ≡ trap house w pid block
-          unfolding trapped
-          trap-stop y = found _ (rw (holds-as, y))
+            pub trap-stop : c ≡ true → answered (Stop (entryAt (w .target .table .entries) k .id)) (stopWith w i block)
+                ≡ trap house w pid block
+            unfolding trapped
+            trap-stop y = found _ (rw (holds-as, y))
 
-          pub trap-pass : c ≡ false
-              → (let b = entryAt (w .target .table .entries) k in answered (Pass (getD (b .plain) 0 0) (getD (b .plain) 1 0)) w)
-              ≡ trap house w pid block
-          unfolding trapped
-          trap-pass y = found _ (rw (holds-as, y))
+            pub trap-pass : c ≡ false
+                → (let b = entryAt (w .target .table .entries) k in
+                answered (Pass (getD (b .plain) 0 0) (getD (b .plain) 1 0)) w)
+                ≡ trap house w pid block
+            unfolding trapped
+            trap-pass y = found _ (rw (holds-as, y))

@@ -1,12 +1,12 @@
 // The events of the kernel, over a fit record: what each answers, and what it changes in the record.
-use target_fit::Lookup;
-use target_fit::Scan;
 use rules::Answer;
 use step_effect::Change;
 use step_effect::Effect;
 use target::Process;
 use target::Table;
 use target::Target;
+use target_fit::Lookup;
+use target_fit::Scan;
 ghost use mathlib.Core.Path.{_≡_};
 ghost use mathlib.Core.List.{List, []};
 ghost use Prim.Native.Nat.{ℕ, _+_, _*_, _≤_};
@@ -32,10 +32,9 @@ fn save(regs: &mut [u8], i: usize, block: &[u8])
 // Saves a block, and makes its process Stopped with no stop wanted.
 fn stop(regs: &mut [u8], i: usize, block: &[u8], answer: Answer) -> Effect
     requires { ⌜ (blockSize * i + blockSize ≤ length (now regs)) × (length (now block) ≡ blockSize) ⌝ }
-    ensures {
-        λ r. ⌜ (r ≡ record { number = 0; answer = answer; change = change.State i stopped 0; plain = replicate 16 0 })
-        × (now (regs .exit) ≡ saved (now (regs .entry)) i (now (block .entry))) ⌝
-    }
+    ensures { λ r. ⌜ (r
+        ≡ record { number = 0; answer = answer; change = change.State i stopped 0; plain = replicate 16 0 })
+        × (now (regs .exit) ≡ saved (now (regs .entry)) i (now (block .entry))) ⌝ }
 {
     save(regs, i, block);
     Effect::changing(answer, Change::State(i, Process::STOPPED, 0))
@@ -45,10 +44,8 @@ fn stop(regs: &mut [u8], i: usize, block: &[u8], answer: Answer) -> Effect
 pub fn trap(t: Target, s: Scan, mem: &[u8], regs: &mut [u8], pid: u32, block: &[u8]) -> Effect
     requires { ⌜ Ready house t s (now mem) (now regs) ⌝ }
     requires { ⌜ length (now block) ≡ blockSize ⌝ }
-    ensures {
-        λ r. ⌜ effectOutcome t r (now (mem .entry)) (now (regs .exit)) []
-        ≡ trapRule house (world t (now (mem .entry)) (now (regs .entry))) pid (now (block .entry)) ⌝
-    }
+    ensures { λ r. ⌜ effectOutcome t r (now (mem .entry)) (now (regs .exit)) []
+        ≡ trapRule house (world t (now (mem .entry)) (now (regs .entry))) pid (now (block .entry)) ⌝ }
 {
     let found = target_fit::find(t, pid);
     let Lookup::At(i, p) = found else {
@@ -75,13 +72,10 @@ pub fn trap(t: Target, s: Scan, mem: &[u8], regs: &mut [u8], pid: u32, block: &[
 
 // The kernel is about to run a process, with these registers: is it to stop?
 pub fn schedule(t: Target, regs: &mut [u8], pid: u32, block: &[u8]) -> Effect
-    requires {
-        ⌜ (t .count ≤ maxProcesses) × (length (now regs) ≡ blockSize * t .count) × (length (now block) ≡ blockSize) ⌝
-    }
-    ensures {
-        λ r. ⌜ ((mem : List ℕ) → effectOutcome t r mem (now (regs .exit)) []
-        ≡ scheduleRule (world t mem (now (regs .entry))) pid (now (block .entry))) ⌝
-    }
+    requires { ⌜ (t .count ≤ maxProcesses) × (length (now regs) ≡ blockSize * t .count)
+        × (length (now block) ≡ blockSize) ⌝ }
+    ensures { λ r. ⌜ ((mem : List ℕ) → effectOutcome t r mem (now (regs .exit)) []
+        ≡ scheduleRule (world t mem (now (regs .entry))) pid (now (block .entry))) ⌝ }
 {
     let found = target_fit::find(t, pid);
     let Lookup::At(i, p) = found else {

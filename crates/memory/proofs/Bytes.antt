@@ -1,4 +1,5 @@
--- Plain and real memory byte by byte, each byte by whether its offset is under a trap, and the lengths. Assumes nothing.
+-- Plain and real memory byte by byte, each byte by whether its offset is under a trap, and the lengths. Assumes
+-- nothing.
 use mathlib.Core.Path.{_≡_, refl, sym, ap, _∙_}
 use mathlib.Core.Bool.{true, false, cond}
 use mathlib.Core.List.{List, [], _∷_}
@@ -181,7 +182,8 @@ module _ (w : ℕ) (sites mem : List ℕ) (at : ℕ) (bytes : List ℕ) where
 -- the plain byte at place p
 abbrev pub afterAt : ℕ → List ℕ → List ℕ → ℕ → List ℕ → ℕ → ℕ
 afterAt w sites plain at bytes p =
-    cond (eqb (slotOf w sites (offsetOf w sites p)) (p / w)) (writtenAt at bytes (offsetOf w sites p) (getD plain p 0)) (getD plain p 0)
+    cond (eqb (slotOf w sites (offsetOf w sites p)) (p / w)) (writtenAt at bytes (offsetOf w sites p) (getD plain p 0))
+    (getD plain p 0)
 
 -- the plain byte of an offset under a trap: it is for that offset, and is written
 module _ (w : ℕ) (pos : 0 < w) (sites : List ℕ) (i : ℕ) (e : covered w sites i ≡ true) where
@@ -193,7 +195,8 @@ module _ (w : ℕ) (pos : 0 < w) (sites : List ℕ) (i : ℕ) (e : covered w sit
       rw (part-of w k (i % w) r, place-in w k (i % w) r, slot-site w sites i e) (site-place w i)
 
   -- of the places that are for an offset in their slot, no other is for this one
-  pub place-of-offset : (p : ℕ) → slotOf w sites (offsetOf w sites p) ≡ p / w → offsetOf w sites p ≡ i → p ≡ slotOf w sites i * w + i % w
+  pub place-of-offset : (p : ℕ) → slotOf w sites (offsetOf w sites p) ≡ p / w → offsetOf w sites p ≡ i
+      → p ≡ slotOf w sites i * w + i % w
   unfolding offsetOf
   place-of-offset p s q =
       let y : slotOf w sites i ≡ p / w = ap (slotOf w sites) (sym q) ∙ s in

@@ -1,4 +1,5 @@
--- Laws of writes, one byte after the other, and of plain bytes put back slot by slot, for any width of a trap. Assumes nothing.
+-- Laws of writes, one byte after the other, and of plain bytes put back slot by slot, for any width of a trap. Assumes
+-- nothing.
 use mathlib.Core.Path.{_≡_, sym, ap, _∙_}
 use mathlib.Core.Bool.{Bool, true, false, cond}
 use mathlib.Core.List.{List, [], _∷_}
@@ -22,7 +23,8 @@ use Rattle.memory.specs.Place.{placeOf}
 use Rattle.memory.specs.Write.{writtenAt, memAfter, offsetOf, plainAfter}
 use Rattle.memory.proofs.Slots.{slot-covers}
 use Rattle.memory.proofs.Bytes.{length-plain, plain-at, no-traps, laid-one}
-use Rattle.memory.proofs.Bytes.{written-in, written-before, written-after, written-none, afterAt, after-at, place-of-offset}
+use Rattle.memory.proofs.Bytes.{written-in, written-before, written-after, written-none, afterAt, after-at}
+use Rattle.memory.proofs.Bytes.{place-of-offset}
 
 -- ---- a write, one byte after the other
 
@@ -32,9 +34,11 @@ module _ (at : ℕ) (bytes : List ℕ) (j : ℕ) (h : j < length bytes) where
   written-here old =
       let z : length (take (j + 1) bytes) ≡ j + 1 = length-take-le (j + 1) bytes (omega arith) in
       let e : at + j - at ≡ j = omega arith in
-      written-in at (take (j + 1) bytes) (at + j) old (omega arith) (omega arith) ∙ rw (e, getD-take (j + 1) bytes j 0 (omega arith))
+      written-in at (take (j + 1) bytes) (at + j) old (omega arith) (omega arith)
+      ∙ rw (e, getD-take (j + 1) bytes j 0 (omega arith))
 
-  written-there : (i old : ℕ) → (i ≡ at + j → ⊥) → writtenAt at (take j bytes) i old ≡ writtenAt at (take (j + 1) bytes) i old
+  written-there : (i old : ℕ) → (i ≡ at + j → ⊥) → writtenAt at (take j bytes) i old ≡ writtenAt at (take (j + 1) bytes)
+      i old
   written-there i old s =
       let z : length (take j bytes) ≡ j = length-take-le j bytes (omega arith) in
       let y : length (take (j + 1) bytes) ≡ j + 1 = length-take-le (j + 1) bytes (omega arith) in
@@ -45,23 +49,28 @@ module _ (at : ℕ) (bytes : List ℕ) (j : ℕ) (h : j < length bytes) where
       ∙ getD-take j bytes (i - at) 0 (omega arith)
       ∙ sym (getD-take (j + 1) bytes (i - at) 0 (omega arith))
       ∙ sym (written-in at (take (j + 1) bytes) i old b (omega arith)))
-      (λ g. written-after at (take j bytes) i old (omega arith) ∙ sym (written-after at (take (j + 1) bytes) i old (omega arith))))
+      (λ g. written-after at (take j bytes) i old (omega arith)
+      ∙ sym (written-after at (take (j + 1) bytes) i old (omega arith))))
 
 -- a list of n places: each takes what is written at the offset that it is for, or keeps what it had
 module _ (n at : ℕ) (v : List ℕ → ℕ → ℕ) (offset old : ℕ → ℕ) (Takes : ℕ → Type 0)
-    (each : (p : ℕ) → (Takes p × ((bs : List ℕ) → v bs p ≡ writtenAt at bs (offset p) (old p))) ⊎ ((bs : List ℕ) → v bs p ≡ old p)) where
+    (each : (p : ℕ) → (Takes p × ((bs : List ℕ) → v bs p ≡ writtenAt at bs (offset p) (old p)))
+    ⊎ ((bs : List ℕ) → v bs p ≡ old p)) where
   store-none : tab n old ≡ tab n (v [])
   store-none =
-      tab-ext n old (v []) (λ p l. ⊎-elim (λ t. sym (t .1 [] ∙ written-none at (offset p) (old p))) (λ e. sym (e [])) (each p))
+      tab-ext n old (v []) (λ p l. ⊎-elim (λ t. sym (t .1 [] ∙ written-none at (offset p) (old p))) (λ e. sym (e []))
+      (each p))
 
   module _ (bytes : List ℕ) (j : ℕ) (h : j < length bytes) where
     -- a place that is not for the next offset
     same : (p : ℕ) → (Takes p → offset p ≡ at + j → ⊥) → v (take j bytes) p ≡ v (take (j + 1) bytes) p
     same p s =
-        ⊎-elim (λ t. t .1 _ ∙ written-there at bytes j h (offset p) (old p) (s (t .0)) ∙ sym (t .1 _)) (λ e. e _ ∙ sym (e _)) (each p)
+        ⊎-elim (λ t. t .1 _ ∙ written-there at bytes j h (offset p) (old p) (s (t .0)) ∙ sym (t .1 _))
+        (λ e. e _ ∙ sym (e _)) (each p)
 
     -- no place is for it
-    store-nowhere : ((p : ℕ) → p < n → Takes p → offset p ≡ at + j → ⊥) → tab n (v (take j bytes)) ≡ tab n (v (take (j + 1) bytes))
+    store-nowhere : ((p : ℕ) → p < n → Takes p → offset p ≡ at + j → ⊥)
+        → tab n (v (take j bytes)) ≡ tab n (v (take (j + 1) bytes))
     store-nowhere none = tab-ext n _ _ (λ p l. same p (none p l))
 
     -- place k is, and no other
@@ -69,7 +78,8 @@ module _ (n at : ℕ) (v : List ℕ → ℕ → ℕ) (offset old : ℕ → ℕ) 
         → ((p : ℕ) → p < n → Takes p → offset p ≡ at + j → p ≡ k)
         → set (tab n (v (take j bytes))) k (getD bytes j 0) ≡ tab n (v (take (j + 1) bytes))
     store-at k e only =
-        tab-set n _ _ k (getD bytes j 0) (e ∙ written-here at bytes j h (old k)) (λ p l s. same p (λ t q. s (only p l t q)))
+        tab-set n _ _ k (getD bytes j 0) (e ∙ written-here at bytes j h (old k))
+        (λ p l s. same p (λ t q. s (only p l t q)))
 
 -- real memory: the byte is stored where no trap stands
 module _ (w : ℕ) (sites mem : List ℕ) (at : ℕ) where
@@ -87,11 +97,13 @@ module _ (w : ℕ) (sites mem : List ℕ) (at : ℕ) where
 
   module _ (bytes : List ℕ) (j : ℕ) (h : j < length bytes) where
     pub mem-stored : covered w sites (at + j) ≡ false
-        → set (memAfter w sites mem at (take j bytes)) (at + j) (getD bytes j 0) ≡ memAfter w sites mem at (take (j + 1) bytes)
+        → set (memAfter w sites mem at (take j bytes)) (at + j) (getD bytes j 0) ≡ memAfter w sites mem
+        at (take (j + 1) bytes)
     unfolding memAfter
     mem-stored e = store-at (length mem) at memAt _ _ _ each-mem bytes j h (at + j) (rw e) (λ i l t q. q)
 
-    pub mem-kept : covered w sites (at + j) ≡ true → memAfter w sites mem at (take j bytes) ≡ memAfter w sites mem at (take (j + 1) bytes)
+    pub mem-kept : covered w sites (at + j) ≡ true
+        → memAfter w sites mem at (take j bytes) ≡ memAfter w sites mem at (take (j + 1) bytes)
     unfolding memAfter
     mem-kept e =
         store-nowhere (length mem) at memAt _ _ _ each-mem bytes j h
@@ -104,7 +116,8 @@ module _ (w : ℕ) (sites plain : List ℕ) (at : ℕ) where
       × ((bs : List ℕ) → afterAt w sites plain at bs p ≡ writtenAt at bs (offsetOf w sites p) (getD plain p 0)))
       ⊎ ((bs : List ℕ) → afterAt w sites plain at bs p ≡ getD plain p 0)
   each-plain p =
-      on-test (eqb (slotOf w sites (offsetOf w sites p)) (p / w)) (λ e. inl (eqb-true _ _ e, λ bs. rw e)) (λ e. inr (λ bs. rw e))
+      on-test (eqb (slotOf w sites (offsetOf w sites p)) (p / w)) (λ e. inl (eqb-true _ _ e, λ bs. rw e))
+      (λ e. inr (λ bs. rw e))
 
   pub plain-none : plain ≡ plainAfter w sites plain at []
   unfolding plainAfter
@@ -143,22 +156,26 @@ module _ (w s : ℕ) (sites plain mem : List ℕ) (i : ℕ) where
       n = slotOf w sites i
 
       by : (b : Bool) →
-          cond (ltb (cond b 0 (suc n)) (suc (length sites))) (getD plain (cond b 0 (suc n) * w + i % w) 0) (getD mem i 0)
-          ≡ cond b (getD plain (i % w) 0) (cond (ltb n (length sites)) (getD (drop w plain) (n * w + i % w) 0) (getD mem i 0))
+          cond (ltb (cond b 0 (suc n)) (suc (length sites))) (getD plain (cond b 0 (suc n) * w + i % w) 0)
+          (getD mem i 0)
+          ≡ cond b (getD plain (i % w) 0) (cond (ltb n (length sites)) (getD (drop w plain) (n * w + i % w) 0)
+          (getD mem i 0))
       by true = rw (lt-ltb 0 (suc (length sites)) (omega arith)) (ap (λ (x : ℕ). getD plain x 0) (omega arith))
       by false =
           let e : w + (n * w + i % w) ≡ suc n * w + i % w = omega (arith, suc-mul n w) in
           rw (leb·suc-suc (suc n) (length sites), getD-drop w plain (n * w + i % w) 0, e)
 
 -- without slots plain memory is memory
-pub plain-past : (w : ℕ) (sites plain mem : List ℕ) (k : ℕ) → length sites ≤ k → mem ≡ plainOf w (drop k sites) plain mem
+pub plain-past : (w : ℕ) (sites plain mem : List ℕ) (k : ℕ) → length sites ≤ k → mem ≡ plainOf w (drop k sites) plain
+    mem
 plain-past w sites plain mem k h =
     rw (drop-of-length-le sites {i = k} h) (sym (no-traps w [] plain mem (λ j l. absurd (not-suc-le-zero l))))
 
 module _ (t mem : List ℕ) (pos : 0 < length t) where
   -- the first slot's plain bytes laid over plain memory of the others
   plain-over : (s : ℕ) (sites plain : List ℕ) → ((r : ℕ) → r < length t → getD t r 0 ≡ getD plain r 0)
-      → laidOver t (s ∷ []) (plainOf (length t) sites (drop (length t) plain) mem) ≡ plainOf (length t) (s ∷ sites) plain mem
+      → laidOver t (s ∷ []) (plainOf (length t) sites (drop (length t) plain) mem) ≡ plainOf (length t) (s ∷ sites)
+      plain mem
   plain-over s sites plain e =
       laid-one t s others (plainOf w (s ∷ sites) plain mem) (length-plain w (s ∷ sites) plain mem ∙ sym size)
       (λ i h q. whole i (omega (arith, size)) ∙ rw (eq-eqb (siteOver w i) s q) (sym (e (i % w) (mod-lt i pos))))
@@ -187,7 +204,8 @@ module _ (t mem : List ℕ) (pos : 0 < length t) where
       let w : ℕ = length t in
       let n : (k + 1) * w ≡ k * w + w = ap (λ (x : ℕ). x * w) (add-one k) ∙ suc-mul k w in
       rw (n, ← drop-drop w (k * w) plain, add-one, drop-cons sites k 0 h)
-      (plain-over (getD sites k 0) (drop (suc k) sites) (drop (k * w) plain) (λ r l. e r l ∙ sym (getD-drop (k * w) plain r 0)))
+      (plain-over (getD sites k 0) (drop (suc k) sites) (drop (k * w) plain) (λ r l. e r l
+      ∙ sym (getD-drop (k * w) plain r 0)))
 
 -- ---- where the bytes that an address names lie
 

@@ -1,4 +1,5 @@
--- Laws of the part of a buffer that an address names: where it lies, what is read of it, and what is put in its place. Assumes nothing.
+-- Laws of the part of a buffer that an address names: where it lies, what is read of it, and what is put in its place.
+-- Assumes nothing.
 use mathlib.Core.Path.{_≡_, refl, sym, _∙_}
 use mathlib.Core.Bool.{Bool, true, false, cond, _&&_}
 use mathlib.Core.List.{List, _++_}
@@ -24,7 +25,8 @@ use Rattle.memory.proofs.Bytes.{byteOver, written-in, written-before, w
 
 -- ---- where the bytes lie
 
-placed : (a b : Bool) (p : Place) → p ≡ cond a Registers (cond b Window Nowhere) → (p ≡ Registers → a ≡ true) × (p ≡ Window → b ≡ true)
+placed : (a b : Bool) (p : Place) → p ≡ cond a Registers (cond b Window Nowhere) → (p ≡ Registers → a ≡ true)
+    × (p ≡ Window → b ≡ true)
 placed true b p e = (λ h. refl, λ h. cc)
 placed false true p e = (λ h. cc, λ h. refl)
 placed false false p e = (λ h. cc, λ h. cc)
@@ -64,7 +66,8 @@ part-window w sites plain mem at n m h =
 
 -- a part of a block has the register area's bytes
 pub part-bytes : (regs : List ℕ) (from a n m : ℕ) → a + n ≤ 136 → from + 136 ≤ length regs
-    → let part = take n (drop a (take 136 (drop from regs))) in bytesAt part 0 (length part) m ≡ bytesAt regs (from + a) n m
+    → let part = take n (drop a (take 136 (drop from regs))) in bytesAt part 0 (length part) m ≡ bytesAt regs (from + a)
+    n m
 unfolding bytesAt
 part-bytes regs from a n m h g =
     rw (length-take-le n (drop a block) (simp (length-drop, length-take) (omega arith)))
@@ -77,7 +80,8 @@ part-bytes regs from a n m h g =
     block = take 136 (drop from regs)
 
 -- a part copied to the front of zeros: its bytes, then zeros
-pub copied-zeros : (part : List ℕ) (m : ℕ) → paste (replicate m 0) 0 part (min m (length part)) ≡ bytesAt part 0 (length part) m
+pub copied-zeros : (part : List ℕ) (m : ℕ) → paste (replicate m 0) 0 part (min m (length part))
+    ≡ bytesAt part 0 (length part) m
 unfolding bytesAt
 copied-zeros part m =
     tab-is (paste (replicate m 0) 0 part k) m _ 0
@@ -92,12 +96,14 @@ copied-zeros part m =
     front : length (take k part) ≡ k
     front = length-take-le k part (omega arith)
 
-    byte : (j : ℕ) → j < m → getD (paste (replicate m 0) 0 part k) j 0 ≡ cond (ltb j (length part)) (getD part (0 + j) 0) 0
+    byte : (j : ℕ) → j < m → getD (paste (replicate m 0) 0 part k) j 0 ≡ cond (ltb j (length part))
+        (getD part (0 + j) 0) 0
     byte j g =
         on-less j (length part)
         (λ l.
         let e : j < k = omega arith in
-        rw (lt-ltb j (length part) l, zero-add j) (List·getD-append (take k part) _ 0 j (rw front e) ∙ getD-take k part j 0 e))
+        rw (lt-ltb j (length part) l, zero-add j) (List·getD-append (take k part) _ 0 j (rw front e)
+        ∙ getD-take k part j 0 e))
         (λ l.
         let q : length (take k part) + (j - k) ≡ j = omega (arith, front) in
         let e : 0 + k + (j - k) ≡ j = omega arith in
@@ -156,7 +162,8 @@ put-over l at bytes h =
         let m = i - at - length bytes in
         let e : length bytes + m ≡ i - at = omega arith in
         let f : at + (i - at) ≡ i = omega arith in
-        let q = getD-append-add bytes rest m 0 ∙ getD-drop (length bytes) (drop at l) m 0 ∙ getD-drop at l (length bytes + m) 0 in
+        let q = getD-append-add bytes rest m 0 ∙ getD-drop (length bytes) (drop at l) m 0
+        ∙ getD-drop at l (length bytes + m) 0 in
         past i b ∙ (rw (e, f) at q) ∙ sym (written-after at bytes i (getD l i 0) g)
 
 -- the same by a copy into the part of the list
@@ -166,6 +173,7 @@ pub put-copied : (l bytes part : List ℕ) (at : ℕ) → at + length bytes ≤ 
     → take at l ++ (part ++ drop (at + length bytes - at) (drop at l)) ≡ overwritten l at bytes
 put-copied l bytes part at h e =
     let k : at + length bytes - at ≡ length bytes = omega arith in
-    let z : length (take (at + length bytes - at) (drop at l)) ≡ length bytes = simp (length-take, length-drop) (omega arith) in
+    let z : length (take (at + length bytes - at) (drop at l)) ≡ length bytes =
+    simp (length-take, length-drop) (omega arith) in
     let q : part ≡ bytes = e ∙ copy-whole (take (at + length bytes - at) (drop at l)) bytes z in
     rw (q, k) (put-over l at bytes h)

@@ -3,7 +3,7 @@ use mathlib.Core.Path.{_≡_, sym, _∙_}
 use Prim.Native.Nat.{ℕ, zero, suc, _+_, _*_, _/_, _%_, _<_, _≤_}
 use native.Mathlib.Nat.{zero-add, mod-le, mod-eq-of-lt, add-mod, div-add-mod'}
 use native.Mathlib.Omega.{arith}
-use Rattle.memory.specs.Overlay.{noSite, siteOver}
+use Rattle.memory.specs.Overlay.{freeSite, siteOver}
 
 -- ---- the site over an offset
 
@@ -31,7 +31,7 @@ module _ (w : ℕ) where
   Free z = (i : ℕ) → siteOver w i ≡ z → ⊥
 
   -- so is one with the site that stands for none, where a trap has two bytes or more
-  pub no-site-free : 2 ≤ w → Free noSite
+  pub no-site-free : 2 ≤ w → Free freeSite
   no-site-free h i e = by (i / w) (sym (site-multiple i) ∙ e)
     where
       by : (q : ℕ) → q * w ≡ 1 → ⊥

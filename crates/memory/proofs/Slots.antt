@@ -11,7 +11,7 @@ use lib.ListN.{length, getD, set, replicate, length-set, length-replicate, getD-
 use Rattle.common.specs.First.{firstOf}
 use Rattle.common.proofs.Cases.{on-test}
 use Rattle.common.proofs.First.{first-holds, first-set, first-le, first-new}
-use Rattle.memory.specs.Overlay.{noSite, siteOver, slotOf, covered}
+use Rattle.memory.specs.Overlay.{freeSite, siteOver, slotOf, covered}
 use Rattle.memory.proofs.Site.{Free, no-site-free}
 
 module _ (w : ℕ) (sites : List ℕ) (i : ℕ) where
@@ -43,7 +43,8 @@ module _ (w : ℕ) (sites : List ℕ) (i : ℕ) where
 
   -- an offset whose site no slot has is under no trap
   pub bare-by : ((j : ℕ) → j < length sites → getD sites j 0 ≡ siteOver w i → ⊥) → covered w sites i ≡ false
-  bare-by none = on-test (covered w sites i) (λ e. absurd (none (slotOf w sites i) (slot-below e) (slot-site e))) (λ e. e)
+  bare-by none = on-test (covered w sites i) (λ e. absurd (none (slotOf w sites i) (slot-below e) (slot-site e)))
+      (λ e. e)
 
   -- the one slot that has the offset's site is its slot
   pub slot-only : (k : ℕ) → k < length sites → getD sites k 0 ≡ siteOver w i
@@ -64,12 +65,14 @@ covered-one w s i = by (eqb (siteOver w i) s)
 -- ---- free slots
 
 -- where every slot is free no offset is under a trap
-pub none-covered : (w : ℕ) (sites : List ℕ) → ((j : ℕ) → j < length sites → Free w (getD sites j 0)) → (i : ℕ) → covered w sites i ≡ false
+pub none-covered : (w : ℕ) (sites : List ℕ) → ((j : ℕ) → j < length sites → Free w (getD sites j 0)) → (i : ℕ)
+    → covered w sites i ≡ false
 none-covered w sites free i = bare-by w sites i (λ j h e. free j h i (sym e))
 
 -- k slots with the site that stands for none are free
-pub free-slots : (w : ℕ) → 2 ≤ w → (k j : ℕ) → j < length (replicate k noSite) → Free w (getD (replicate k noSite) j 0)
-free-slots w h k j l = rw (getD-replicate k j noSite 0 (rw length-replicate at l)) (no-site-free w h)
+pub free-slots : (w : ℕ) → 2 ≤ w → (k j : ℕ) → j < length (replicate k freeSite)
+    → Free w (getD (replicate k freeSite) j 0)
+free-slots w h k j l = rw (getD-replicate k j freeSite 0 (rw length-replicate at l)) (no-site-free w h)
 
 -- ---- another site is stored in slot k
 
@@ -80,15 +83,18 @@ module _ (w : ℕ) (sites : List ℕ) (k z i : ℕ) where
   covered-same e = rw (e, length-set)
 
   -- an offset with neither the old site nor the new one has the slot that it had
-  pub slot-kept : (siteOver w i ≡ z → ⊥) → (siteOver w i ≡ getD sites k 0 → ⊥) → slotOf w (set sites k z) i ≡ slotOf w sites i
+  pub slot-kept : (siteOver w i ≡ z → ⊥) → (siteOver w i ≡ getD sites k 0 → ⊥)
+      → slotOf w (set sites k z) i ≡ slotOf w sites i
   unfolding slotOf
   slot-kept n o = first-set (eqb (siteOver w i)) sites 0 k z (ne-eqb _ _ n ∙ sym (ne-eqb _ _ o))
 
   -- and is under a trap if it was
-  pub covered-kept : (siteOver w i ≡ z → ⊥) → (siteOver w i ≡ getD sites k 0 → ⊥) → covered w (set sites k z) i ≡ covered w sites i
+  pub covered-kept : (siteOver w i ≡ z → ⊥) → (siteOver w i ≡ getD sites k 0 → ⊥)
+      → covered w (set sites k z) i ≡ covered w sites i
   covered-kept n o = covered-same (slot-kept n o)
 
   -- where slot k was free, the offset has slot k now, or the slot that it had
-  pub slot-new : Free w (getD sites k 0) → (slotOf w (set sites k z) i ≡ k) ⊎ (slotOf w (set sites k z) i ≡ slotOf w sites i)
+  pub slot-new : Free w (getD sites k 0) → (slotOf w (set sites k z) i ≡ k)
+      ⊎ (slotOf w (set sites k z) i ≡ slotOf w sites i)
   unfolding slotOf
   slot-new free = first-new (eqb (siteOver w i)) sites 0 k z (ne-eqb _ _ (free i))

@@ -1,4 +1,5 @@
--- What an instruction set fixes, as far as the stub looks at it. The rules and the book are stated over any; 01 has the house's.
+-- What an instruction set fixes, as far as the stub looks at it. The rules and the book are stated over any; 01 has the
+-- house's.
 use Prim.Native.Nat.{ℕ}
 use mathlib.Core.List.{List, [], _∷_}
 use Rattle.common.specs.Bytes.{ofLowFirst}

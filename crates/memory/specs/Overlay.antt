@@ -1,8 +1,9 @@
 -- 01, "Breakpoints" and "Trap": plain memory and real memory of the window, byte by byte, by offset.
 --
--- Over any trap of w bytes that stands at multiples of w: the one site that can cover an offset is the multiple at or below it.
--- A table is given by its slots' sites (offsets; a free slot has one that is no multiple of w and covers nothing) and by its
--- slots' plain bytes, w for each slot, one slot after the other.
+-- Over any trap of w bytes that stands at multiples of w: the one site that can cover an offset is the multiple at or
+-- below it.
+-- A table is given by its slots' sites (offsets; a free slot has one that is no multiple of w and covers nothing) and
+-- by its slots' plain bytes, w for each slot, one slot after the other.
 use Prim.Native.Nat.{ℕ, _+_, _-_, _*_, _%_}
 use mathlib.Core.Bool.{Bool, cond}
 use mathlib.Core.List.{List}
@@ -12,8 +13,8 @@ use Rattle.common.specs.First.{firstOf}
 use Rattle.common.specs.Tab.{tab}
 
 -- the site of a free slot: odd, so no offset's
-abbrev pub noSite : ℕ
-noSite = 1
+abbrev pub freeSite : ℕ
+freeSite = 1
 
 -- the site that can cover offset i
 unfoldable pub siteOver : ℕ → ℕ → ℕ

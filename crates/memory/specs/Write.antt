@@ -1,4 +1,5 @@
--- 01, Tmget and Tmput in the window: reads answer plain bytes; "a byte under a trap goes to the entry's plain bytes and the trap stays".
+-- 01, Tmget and Tmput in the window: reads answer plain bytes; "a byte under a trap goes to the entry's plain bytes and
+-- the trap stays".
 use Prim.Native.Nat.{ℕ, _+_, _-_, _*_, _/_, _%_}
 use mathlib.Core.Bool.{cond, _&&_}
 use mathlib.Core.List.{List}
@@ -45,4 +46,5 @@ offsetOf w sites j = getD sites (j / w) 0 + j % w
 unfoldable pub plainAfter : ℕ → List ℕ → List ℕ → ℕ → List ℕ → List ℕ
 plainAfter w sites plain at bytes =
     tab (length plain)
-    (λ j. cond (eqb (slotOf w sites (offsetOf w sites j)) (j / w)) (writtenAt at bytes (offsetOf w sites j) (getD plain j 0)) (getD plain j 0))
+    (λ j. cond (eqb (slotOf w sites (offsetOf w sites j)) (j / w)) (writtenAt at bytes (offsetOf w sites j) (getD plain
+    j 0)) (getD plain j 0))

@@ -1,7 +1,7 @@
 // The window under traps: reads and writes of plain bytes, and laying bytes over a site.
 //
-// Everything goes by offset into the window. A table of breakpoints is given by two small arrays: the slots' sites, where a free
-// slot has the odd site 1, and the slots' plain bytes, two for each slot.
+// Everything goes by offset into the window. A table of breakpoints is given by two small arrays: the slots' sites,
+// where a free slot has the odd site 1, and the slots' plain bytes, two for each slot.
 use target::Table;
 ghost use mathlib.Core.Path.{_≡_};
 ghost use mathlib.Core.List.{_∷_, []};
@@ -12,6 +12,7 @@ ghost use Rattle.memory.specs.Write.{partRead, memAfter, plainAfter};
 
 // The trap, c.ebreak, as it stands in memory.
 pub const TRAP_FIRST: u8 = 0x02;
+
 pub const TRAP_SECOND: u8 = 0x90;
 
 // Where the bytes that a request names lie; crate `memory_place` says where.
@@ -42,7 +43,12 @@ pub fn slot_of(sites: &[u32; Table::ENTRIES], at: usize) -> usize
 }
 
 // The plain byte at an offset.
-pub fn plain_at(mem: &[u8], sites: &[u32; Table::ENTRIES], plain: &[u8; Table::PLAIN], at: usize) -> u8
+pub fn plain_at(
+    mem: &[u8],
+    sites: &[u32; Table::ENTRIES],
+    plain: &[u8; Table::PLAIN],
+    at: usize,
+) -> u8
     ensures { λ r. ⌜ r ≡ plainAt 2 (now (sites .entry)) (now (plain .entry)) (now (mem .entry)) at ⌝ }
 {
     let all = &sites[..];
@@ -57,7 +63,12 @@ pub fn plain_at(mem: &[u8], sites: &[u32; Table::ENTRIES], plain: &[u8; Table::P
 }
 
 // The bytes of a part of the window that lies at an offset, those under traps plain, then zeros.
-pub fn read(part: &[u8], sites: &[u32; Table::ENTRIES], plain: &[u8; Table::PLAIN], at: u32) -> [u8; 9]
+pub fn read(
+    part: &[u8],
+    sites: &[u32; Table::ENTRIES],
+    plain: &[u8; Table::PLAIN],
+    at: u32,
+) -> [u8; 9]
     ensures { λ r. ⌜ r ≡ partRead 2 (now (sites .entry)) (now (plain .entry)) (now (part .entry)) at 9 ⌝ }
 {
     let all = &sites[..];
@@ -82,14 +93,17 @@ pub fn read(part: &[u8], sites: &[u32; Table::ENTRIES], plain: &[u8; Table::PLAI
 }
 
 // Writes a stretch: each byte to memory or, under a trap, to the slot's plain bytes.
-pub fn write(mem: &mut [u8], sites: &[u32; Table::ENTRIES], plain: &mut [u8; Table::PLAIN], at: usize, bytes: &[u8])
+pub fn write(
+    mem: &mut [u8],
+    sites: &[u32; Table::ENTRIES],
+    plain: &mut [u8; Table::PLAIN],
+    at: usize,
+    bytes: &[u8],
+)
     requires { ⌜ at + length (now bytes) ≤ length (now mem) ⌝ }
-    ensures {
-        λ _. ⌜ now (mem .exit) ≡ memAfter 2 (now (sites .entry)) (now (mem .entry)) at (now (bytes .entry)) ⌝
-    }
-    ensures {
-        λ _. ⌜ now (plain .exit) ≡ plainAfter 2 (now (sites .entry)) (now (plain .entry)) at (now (bytes .entry)) ⌝
-    }
+    ensures { λ _. ⌜ now (mem .exit) ≡ memAfter 2 (now (sites .entry)) (now (mem .entry)) at (now (bytes .entry)) ⌝ }
+    ensures { λ _. ⌜ now (plain .exit)
+        ≡ plainAfter 2 (now (sites .entry)) (now (plain .entry)) at (now (bytes .entry)) ⌝ }
 {
     let all = &sites[..];
     let kept = &mut plain[..];

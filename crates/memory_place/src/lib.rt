@@ -52,10 +52,8 @@ fn part_of<'a>(s: &'a [u8], at: usize, n: usize) -> &'a [u8]
 
 // The stretch that an address names: a part of the register block or of the window.
 pub fn stretch<'a>(block: &'a [u8], mem: &'a [u8], base: u32, address: u32, n: u8) -> &'a [u8]
-    ensures {
-        λ r. ⌜ now r ≡ stretchOf (placeOf base (length (now (mem .entry))) address n) (now (block .entry))
-        (now (mem .entry)) base address n ⌝
-    }
+    ensures { λ r. ⌜ now r ≡ stretchOf (placeOf base (length (now (mem .entry))) address n) (now (block .entry))
+        (now (mem .entry)) base address n ⌝ }
 {
     let from = address as usize;
     let count = n as usize;

@@ -7,6 +7,7 @@ use Prim.Native.Nat.{ℕ, _+_, _-_, _*_, _≤_}
 use native.Mathlib.Omega.{arith}
 use lib.ListN.{length, take, drop, length-take, length-drop, take-append-drop}
 use lib.Seq.{paste, take-at, take-add, drop-append-le, drop-drop}
+use Rattle.target.specs.Limits.{blockSize}
 use Rattle.common.specs.Tab.{tab}
 use Rattle.rules.specs.Step.{setupBy}
 use Rattle.rules.specs.Worked.{workedSetup}
@@ -16,16 +17,16 @@ use Rattle.rules.specs.Step.{beginning, setupTarget, setupOf}
 use Rattle.rules.specs.declared.Answer.{Answer}
 use Rattle.target.specs.declared.Target.{Target}
 use Rattle.program_run.specs.declared.Ran.{Ran}
-use Rattle.program_run.specs.Encoding.{pidBytes, blockBytes, stepMost}
-use Rattle.program_run.specs.History.{begun, afterActions, EachAllowed}
-use Rattle.program_run.specs.Laws.{unused, resumed}
+use Rattle.program_run.specs.Encoding.{pidBytes, stepMost}
+use Rattle.program_run.specs.History.{firstMoment, afterActions, EachAllowed}
+use Rattle.program_run.specs.Laws.{remaining, resumed}
 use Rattle.program_run.specs.Run.{goesOn, ended, followedBy, runOf, runWithin}
 use Rattle.program_run.specs.Written.{Runs}
 use Rattle.program_run.proofs.History.{run-agrees}
 use Rattle.program_run.proofs.Pieces.{run-joined}
 use Rattle.program_run.proofs.Runs.{run-none, run-within, room-enough, few-left}
 use Rattle.program_run.proofs.Writes.{same-length}
-use Rattle.program_io.specs.Session as session
+use Rattle.program_io.specs.Session.{workedWorld}
 use Rattle.program_io.specs.Session.{Begins, TurnLeaves, BetweenTurns, ProgramAgrees}
 use Rattle.program_io.specs.declared.Beginning.{Beginning}
 use Rattle.program_io.specs.declared.Turned.{Turned}
@@ -38,7 +39,8 @@ same-setup : (mem regs : List ℕ) → mem ≡ workedSetup .mem → regs ≡ wor
 unfolding setupBy setupOf setupTarget beginning tab
 same-setup mem regs m r = rw (m, r)
 
-pub begins : (mem regs : List ℕ) → mem ≡ workedSetup .mem → regs ≡ workedSetup .regs → (t : Target) (number : ℕ) (answer : Answer)
+pub begins : (mem regs : List ℕ) → mem ≡ workedSetup .mem → regs ≡ workedSetup .regs
+    → (t : Target) (number : ℕ) (answer : Answer)
     → outcome number answer (world t mem regs) []
     ≡ setupOf 4096 64 (5 ∷ 7 ∷ 0 ∷ 0 ∷ []) (0x80001000 ∷ 0x80002000 ∷ 0 ∷ 0 ∷ []) 2 mem regs
     → Begins (record { target = t; mem = mem; regs = regs })
@@ -94,7 +96,7 @@ module _ (w : World) (input : List ℕ) (have : ℕ) (h : have ≤ length input)
 
 -- where more may follow, what a turn keeps is less than the longest step
 pub kept-few : (w : World) (bytes : List ℕ) (r : Turned) (mem regs input before after : List ℕ)
-    → TurnLeaves w bytes r mem regs input before after → r .more ≡ true → r .kept ≤ pidBytes + blockBytes
+    → TurnLeaves w bytes r mem regs input before after → r .more ≡ true → r .kept ≤ pidBytes + blockSize
 kept-few w bytes r mem regs input before after o e = rw (o .kept) (few-left w bytes (sym (o .more) ∙ e))
 
 -- ---- between two turns
@@ -107,9 +109,9 @@ pub between-begin : (r : Beginning) → Begins r → (input : List ℕ) → Betw
 unfolding ended goesOn
 between-begin r b input = record {
   read = [];
-  world = rw (run-none session.beginning, b .target, b .mem, b .regs);
-  left = rw (run-none session.beginning);
-  more = rw (run-none session.beginning);
+  world = rw (run-none workedWorld, b .target, b .mem, b .regs);
+  left = rw (run-none workedWorld);
+  more = rw (run-none workedWorld);
 }
 
 -- a read behind what is kept, and a turn over both
@@ -120,17 +122,17 @@ module _ (t : Target) (mem regs input : List ℕ) (kept : ℕ) (b : BetweenTurns
       → BetweenTurns (r .target) mem′ regs′ input′ (r .kept)
   unfolding resumed followedBy
   between-on filled got same r mem′ regs′ input′ before after o e =
-      let q = runOf session.beginning (b .read) in
+      let q = runOf workedWorld (b .read) in
       let piece = take got (drop kept filled) in
-      let bytes : take (kept + got) filled ≡ unused q (b .read) ++ piece =
+      let bytes : take (kept + got) filled ≡ remaining q (b .read) ++ piece =
       take-add kept got filled ∙ rw (same, b .left) in
-      let x = runOf (q .after) (unused q (b .read) ++ piece) in
+      let x = runOf (q .after) (remaining q (b .read) ++ piece) in
       let run : runOf (world t mem regs) (take (kept + got) filled) ≡ x = rw (b .world, bytes) in
-      let all : runOf session.beginning (b .read ++ piece) ≡ followedBy q x =
-      run-joined session.beginning (b .read) piece ∙ rw (b .more) in
-      let rest : unused (followedBy q x) (b .read ++ piece) ≡ unused x (unused q (b .read) ++ piece) =
+      let all : runOf workedWorld (b .read ++ piece) ≡ followedBy q x =
+      run-joined workedWorld (b .read) piece ∙ rw (b .more) in
+      let rest : remaining (followedBy q x) (b .read ++ piece) ≡ remaining x (remaining q (b .read) ++ piece) =
       sym (drop-drop (x .used) (q .used) (b .read ++ piece))
-      ∙ rw (drop-append-le (q .used) (b .read) piece (run-within session.beginning (b .read))) in
+      ∙ rw (drop-append-le (q .used) (b .read) piece (run-within workedWorld (b .read))) in
       record {
         read = b .read ++ piece;
         world = rw all (rw run at (o .world));
@@ -141,7 +143,7 @@ module _ (t : Target) (mem regs input : List ℕ) (kept : ℕ) (b : BetweenTurns
 -- ---- the book
 
 pub program-agrees : ProgramAgrees
-unfolding begun afterActions EachAllowed
+unfolding firstMoment afterActions EachAllowed
 program-agrees input =
-    run-agrees session.beginning input workedSetup []
+    run-agrees workedWorld input workedSetup []
     (record { accepted = setup-accepted; allowed = tt; target = refl; memory = refl }) .1

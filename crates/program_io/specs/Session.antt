@@ -13,7 +13,7 @@ use Rattle.rules.specs.Worked.{workedSetup}
 use Rattle.rules.specs.Outcome.{World, world}
 use Rattle.target.specs.declared.Target.{Target}
 use Rattle.program_run.specs.History.{bookAfter}
-use Rattle.program_run.specs.Laws.{unused}
+use Rattle.program_run.specs.Laws.{remaining}
 use Rattle.program_run.specs.Run.{goesOn, runOf}
 use Rattle.program_run.specs.Written.{Writes}
 use Rattle.program_io.specs.declared.Beginning.{Beginning}
@@ -28,8 +28,8 @@ pub record Begins (r : Beginning) : Type 0 where
   pub mem : r .mem ≡ workedSetup .mem
   pub regs : r .regs ≡ workedSetup .regs
 
-abbrev pub beginning : World
-beginning = world (setupBy workedSetup .after .target) (workedSetup .mem) (workedSetup .regs)
+abbrev pub workedWorld : World
+workedWorld = world (setupBy workedSetup .after .target) (workedSetup .mem) (workedSetup .regs)
 
 -- ---- a turn
 
@@ -38,8 +38,8 @@ pub record TurnLeaves (w : World) (bytes : List ℕ) (r : Turned) (mem regs inpu
   pub world : world (r .target) mem regs ≡ runOf w bytes .after
   pub writes : Writes (runOf w bytes .output) (r .filled) before after
   pub fits : r .filled ≤ length after
-  pub left : take (r .kept) input ≡ unused (runOf w bytes) bytes
-  pub kept : r .kept ≡ length (unused (runOf w bytes) bytes)
+  pub left : take (r .kept) input ≡ remaining (runOf w bytes) bytes
+  pub kept : r .kept ≡ length (remaining (runOf w bytes) bytes)
   pub more : r .more ≡ goesOn (runOf w bytes .end)
 
 -- ---- between two turns
@@ -48,12 +48,12 @@ pub record TurnLeaves (w : World) (bytes : List ℕ) (r : Turned) (mem regs inpu
 -- the front of the input's buffer, and more may follow
 pub record BetweenTurns (t : Target) (mem regs input : List ℕ) (kept : ℕ) : Type 0 where
   pub read : List ℕ
-  pub world : world t mem regs ≡ runOf beginning read .after
-  pub left : take kept input ≡ unused (runOf beginning read) read
-  pub more : goesOn (runOf beginning read .end) ≡ true
+  pub world : world t mem regs ≡ runOf workedWorld read .after
+  pub left : take kept input ≡ remaining (runOf workedWorld read) read
+  pub more : goesOn (runOf workedWorld read .end) ≡ true
 
 -- the program over any input leaves memory as the book says: plain memory with the traps laid over it
 abbrev pub ProgramAgrees : Type 0
 ProgramAgrees =
-    (input : List ℕ) → let q = runOf beginning input in
+    (input : List ℕ) → let q = runOf workedWorld input in
     q .after .mem ≡ realBy house workedSetup (bookAfter workedSetup (map step (q .steps)))

@@ -15,7 +15,7 @@ use Rattle.rules.proofs.Theorem.{demand3}
 use Rattle.target.specs.declared.Target.{Target}
 use Rattle.program_run.specs.declared.Ran.{Ran}
 use Rattle.program_run.specs.Encoding.{stepMost, bodyOf, encoded, stepOn}
-use Rattle.program_run.specs.History.{Moment, begun, afterAction, afterActions, Allowed, EachAllowed}
+use Rattle.program_run.specs.History.{Moment, firstMoment, afterAction, afterActions, Allowed, EachAllowed}
 use Rattle.program_run.specs.History.{AgreesWithBook}
 use Rattle.program_run.specs.Laws.{RunAgrees}
 use Rattle.program_run.specs.Run.{ended, once, followedBy, runOf, runWithin}
@@ -28,7 +28,8 @@ rules = stubOf (stepOf house)
 module _ (s : Setup) where
   -- ---- lists of events
 
-  after-joined : (m : Moment) (es fs : List Action) → afterActions s m (es ++ fs) ≡ afterActions s (afterActions s m es) fs
+  after-joined : (m : Moment) (es fs : List Action) → afterActions s m (es ++ fs) ≡ afterActions s (afterActions s m es)
+      fs
   unfolding afterActions
   after-joined m [] fs = refl
   after-joined m (e ∷ es) fs = after-joined (afterAction s m e) es fs
@@ -72,17 +73,17 @@ steps-leave =
 -- ---- the promise
 
 pub run-agrees : RunAgrees
-unfolding begun
+unfolding firstMoment
 run-agrees w input s es left =
     let q = runOf w input in
     let all = es ++ map step (q .steps) in
-    let allowed = allowed-joined s (begun s) es (q .steps) (left .allowed) in
-    let same = steps-leave w input s (afterActions s (begun s) es)
+    let allowed = allowed-joined s (firstMoment s) es (q .steps) (left .allowed) in
+    let same = steps-leave w input s (afterActions s (firstMoment s) es)
     (record { target = sym (left .target); memory = sym (left .memory) }) in
-    let z = after-joined s (begun s) es (map step (q .steps)) in
-    let memory : q .after .mem ≡ afterActions s (begun s) all .mem = rw z (sym (same .memory)) in (
+    let z = after-joined s (firstMoment s) es (map step (q .steps)) in
+    let memory : q .after .mem ≡ afterActions s (firstMoment s) all .mem = rw z (sym (same .memory)) in (
       record { accepted = left .accepted; allowed = allowed; target = rw z (sym (same .target)); memory = memory },
-      memory ∙ at-end s (begun s) _ all (demand3 house s (left .accepted) all) allowed,
+      memory ∙ at-end s (firstMoment s) _ all (demand3 house s (left .accepted) all) allowed,
     )
 
 within-book : (w : World) (input : List ℕ) (room : ℕ)

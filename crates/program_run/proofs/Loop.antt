@@ -11,10 +11,10 @@ use Rattle.common.proofs.Lists.{part-to-end}
 use Rattle.rules.specs.Outcome.{World, world, Outcome}
 use Rattle.program_run.specs.declared.End.{End}
 use Rattle.program_run.specs.declared.End.the-variants.{UsedUp, Cut, OtherKind, Full}
-use Rattle.program_run.specs.declared.Kind.{Kind}
+use Rattle.step.specs.declared.StepKind.{StepKind}
 use Rattle.program_run.specs.declared.KindByte.the-variants.{Listed, Unlisted}
 use Rattle.program_run.specs.declared.Stepped.{Stepped}
-use Rattle.program_run.specs.Encoding.{stepMost, kindOf, bodyOf, stepOn}
+use Rattle.program_run.specs.Encoding.{stepMost, listedKind, bodyOf, stepOn}
 use Rattle.rules.specs.Outcome.{shown}
 use Rattle.program_run.specs.Run.{endBytes, Run, ended, once, followedBy, runOf, runWithin}
 use Rattle.program_run.specs.Written.{Writes, Steps, Runs}
@@ -89,7 +89,7 @@ module _ (q : Run) (input before : List ℕ) (w : World) (used filled : ℕ) (af
     first-byte : drop used input ≡ getD input used 0 ∷ left
     first-byte = drop-cons input used 0 open-input
 
-    pub out-other : kindOf (getD input used 0) ≡ Unlisted
+    pub out-other : listedKind (getD input used 0) ≡ Unlisted
         → Runs q (record { target = w .target; used = used; filled = filled + 1; end = OtherKind }) (w .mem) (w .regs)
         before (set after filled 0xff)
     unfolding endBytes
@@ -107,7 +107,7 @@ module _ (q : Run) (input before : List ℕ) (w : World) (used filled : ℕ) (af
         (writes-behind before after (g .done .output) filled (g .writes) (omega (arith, g .room)) (0xff ∷ []) _ 1 new
         (omega (arith, g .room))))
 
-    module _ (kind : Kind) (k : kindOf (getD input used 0) ≡ Listed kind) (n : ℕ) (e : n ≡ bodyOf kind) where
+    module _ (kind : StepKind) (k : listedKind (getD input used 0) ≡ Listed kind) (n : ℕ) (e : n ≡ bodyOf kind) where
       pub out-cut : length input - (used + 1) < n
           → Runs q (record { target = w .target; used = used; filled = filled; end = Cut })
           (w .mem) (w .regs) before after

@@ -11,10 +11,10 @@ use lib.Seq.{take-append-le, drop-append-le, drop-drop}
 use Rattle.common.proofs.Cases.{on-test}
 use Rattle.rules.specs.Outcome.{World}
 use Rattle.program_run.specs.declared.End.the-variants.{UsedUp, Cut}
-use Rattle.program_run.specs.declared.Kind.{Kind}
+use Rattle.step.specs.declared.StepKind.{StepKind}
 use Rattle.program_run.specs.declared.KindByte.the-variants.{Listed}
-use Rattle.program_run.specs.Encoding.{kindOf, bodyOf, stepOn}
-use Rattle.program_run.specs.Laws.{unused, resumed, Joined, inPieces, AnyCutting}
+use Rattle.program_run.specs.Encoding.{listedKind, bodyOf, stepOn}
+use Rattle.program_run.specs.Laws.{remaining, resumed, Joined, inPieces, AnyCutting}
 use Rattle.program_run.specs.Run.{endBytes, goesOn, Run, ended, followedBy, runOf}
 use Rattle.program_run.proofs.Runs.{first, later, run-none, run-other, run-step, each-run, run-within}
 use Rattle.program_run.proofs.Runs.{left-later}
@@ -49,7 +49,8 @@ resumed-later p q input = go (goesOn (q .end))
 -- ---- two pieces
 
 -- a first step that the first piece has whole
-joined-step : (w : World) (byte : ℕ) (l b : List ℕ) (kind : Kind) → kindOf byte ≡ Listed kind → bodyOf kind ≤ length l
+joined-step : (w : World) (byte : ℕ) (l b : List ℕ) (kind : StepKind) → listedKind byte ≡ Listed kind
+    → bodyOf kind ≤ length l
     → runOf w (byte ∷ (l ++ b))
     ≡ followedBy (first w kind l) (runOf (stepOn w kind (take (bodyOf kind) l) .after) (drop (bodyOf kind) l ++ b))
 joined-step w byte l b kind e h =
@@ -57,21 +58,22 @@ joined-step w byte l b kind e h =
     run-step w byte (l ++ b) kind e (simp length-append (omega arith))
     ∙ rw (take-append-le n l b h, drop-append-le n l b h)
 
-joined-more : (w : World) (byte : ℕ) (l : List ℕ) (kind : Kind) → kindOf byte ≡ Listed kind → bodyOf kind ≤ length l
+joined-more : (w : World) (byte : ℕ) (l : List ℕ) (kind : StepKind) → listedKind byte ≡ Listed kind
+    → bodyOf kind ≤ length l
     → ((b : List ℕ) → runOf (stepOn w kind (take (bodyOf kind) l) .after) (drop (bodyOf kind) l ++ b)
-    ≡ resumed (later w kind l) (unused (later w kind l) (drop (bodyOf kind) l) ++ b))
+    ≡ resumed (later w kind l) (remaining (later w kind l) (drop (bodyOf kind) l) ++ b))
     → (b : List ℕ)
     → let q = followedBy (first w kind l) (later w kind l) in
-    runOf w (byte ∷ (l ++ b)) ≡ resumed q (unused q (byte ∷ l) ++ b)
+    runOf w (byte ∷ (l ++ b)) ≡ resumed q (remaining q (byte ∷ l) ++ b)
 joined-more w byte l kind e h r b =
     let x = later w kind l in
     joined-step w byte l b kind e h
-    ∙ rw (r b, resumed-later (first w kind l) x (unused x (drop (bodyOf kind) l) ++ b), left-later w byte kind l x)
+    ∙ rw (r b, resumed-later (first w kind l) x (remaining x (drop (bodyOf kind) l) ++ b), left-later w byte kind l x)
 
 pub run-joined : Joined
 unfolding resumed ended goesOn
 run-joined w a b =
-    each-run (λ w a q. (b : List ℕ) → runOf w (a ++ b) ≡ resumed q (unused q a ++ b))
+    each-run (λ w a q. (b : List ℕ) → runOf w (a ++ b) ≡ resumed q (remaining q a ++ b))
     (λ w b. sym (nothing-then w (runOf w b)))
     (λ w byte l e b. run-other w byte (l ++ b) e)
     (λ w byte l kind e h b. sym (cut-then w (runOf w (byte ∷ (l ++ b)))))
@@ -82,17 +84,17 @@ run-joined w a b =
 
 -- from the run over a beginning
 pieces-from : (w : World) (a : List ℕ) (ps : List (List ℕ))
-    → inPieces (runOf w a) (unused (runOf w a) a) ps ≡ runOf w (a ++ flatten ps)
+    → inPieces (runOf w a) (remaining (runOf w a) a) ps ≡ runOf w (a ++ flatten ps)
 unfolding inPieces flatten resumed followedBy
 pieces-from w a [] = rw (append-nil a)
 pieces-from w a (p ∷ ps) =
     let q = runOf w a in
-    let input = unused q a ++ p in
+    let input = remaining q a ++ p in
     let r = runOf (q .after) input in
     on-test (goesOn (q .end))
     (λ g.
     let whole : runOf w (a ++ p) ≡ followedBy q r = run-joined w a p ∙ rw g in
-    let rest : unused r input ≡ unused (runOf w (a ++ p)) (a ++ p) =
+    let rest : remaining r input ≡ remaining (runOf w (a ++ p)) (a ++ p) =
     rw whole (sym (rw (← (drop-drop (r .used) (q .used) (a ++ p)), drop-append-le (q .used) a p (run-within w a)))) in
     rw (g, rest, ← whole, ← (append-assoc a p (flatten ps))) (pieces-from w (a ++ p) ps))
     (λ g. rw g (sym (run-joined w a (p ++ flatten ps) ∙ rw g)))

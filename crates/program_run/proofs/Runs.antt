@@ -10,11 +10,11 @@ use lib.Seq.{drop-drop}
 use Rattle.common.proofs.Cases.{on-less}
 use Rattle.rules.specs.Outcome.{World}
 use Rattle.program_run.specs.declared.End.the-variants.{UsedUp, Cut, OtherKind, Full}
-use Rattle.program_run.specs.declared.Kind.{Kind}
+use Rattle.step.specs.declared.StepKind.{StepKind}
 use Rattle.program_run.specs.declared.KindByte.{KindByte}
 use Rattle.program_run.specs.declared.KindByte.the-variants.{Listed, Unlisted}
-use Rattle.program_run.specs.Encoding.{stepMost, kindOf, bodyOf, encoded, stepOn}
-use Rattle.program_run.specs.Laws.{unused, RoomEnough, FewLeft}
+use Rattle.program_run.specs.Encoding.{stepMost, listedKind, bodyOf, encoded, stepOn}
+use Rattle.program_run.specs.Laws.{remaining, RoomEnough, FewLeft}
 use Rattle.program_run.specs.Run.{endBytes, goesOn, Run, ended, once, followedBy, onKind, next, run, runOf}
 use Rattle.program_run.specs.Run.{runWithin}
 use Rattle.program_run.proofs.Steps.{shown-most, body-most}
@@ -36,17 +36,17 @@ enough (suc m) zero w [] a b = refl
 enough (suc m) zero w (x ∷ l) a b = absurd (omega arith)
 enough (suc m) (suc k) w [] a b = refl
 enough (suc m) (suc k) w (byte ∷ l) a b =
-    same-rest w (kindOf byte) l (run m) (run k)
+    same-rest w (listedKind byte) l (run m) (run k)
     (λ v n. enough m k v (drop n l) (simp length-drop (omega arith)) (simp length-drop (omega arith)))
 
 -- ---- a run by its first byte
 
 -- the first step, and the run behind it
-abbrev pub first : World → Kind → List ℕ → Run
+abbrev pub first : World → StepKind → List ℕ → Run
 first w kind l =
     once (bodyOf kind + 1) (encoded kind (take (bodyOf kind) l) (w .regs)) (stepOn w kind (take (bodyOf kind) l))
 
-abbrev pub later : World → Kind → List ℕ → Run
+abbrev pub later : World → StepKind → List ℕ → Run
 later w kind l = runOf (stepOn w kind (take (bodyOf kind) l) .after) (drop (bodyOf kind) l)
 
 module _ (w : World) where
@@ -55,11 +55,11 @@ module _ (w : World) where
   run-none = refl
 
   module _ (byte : ℕ) (l : List ℕ) where
-    pub run-other : kindOf byte ≡ Unlisted → runOf w (byte ∷ l) ≡ ended w OtherKind
+    pub run-other : listedKind byte ≡ Unlisted → runOf w (byte ∷ l) ≡ ended w OtherKind
     unfolding runOf run next onKind
     run-other e = rw e
 
-    module _ (kind : Kind) (e : kindOf byte ≡ Listed kind) where
+    module _ (kind : StepKind) (e : listedKind byte ≡ Listed kind) where
       pub run-cut : length l < bodyOf kind → runOf w (byte ∷ l) ≡ ended w Cut
       unfolding runOf run next onKind
       run-cut h = rw (e, lt-leb (bodyOf kind) (length l) h)
@@ -76,14 +76,16 @@ module _ (w : World) where
 
 module _ (P : World → List ℕ → Run → Type 0)
     (none : (w : World) → P w [] (ended w UsedUp))
-    (other : (w : World) (byte : ℕ) (l : List ℕ) → kindOf byte ≡ Unlisted → P w (byte ∷ l) (ended w OtherKind))
-    (cut : (w : World) (byte : ℕ) (l : List ℕ) (kind : Kind) → kindOf byte ≡ Listed kind → length l < bodyOf kind
+    (other : (w : World) (byte : ℕ) (l : List ℕ) → listedKind byte ≡ Unlisted → P w (byte ∷ l) (ended w OtherKind))
+    (cut : (w : World) (byte : ℕ) (l : List ℕ) (kind : StepKind) → listedKind byte ≡ Listed kind
+    → length l < bodyOf kind
     → P w (byte ∷ l) (ended w Cut))
-    (more : (w : World) (byte : ℕ) (l : List ℕ) (kind : Kind) → kindOf byte ≡ Listed kind → bodyOf kind ≤ length l
+    (more : (w : World) (byte : ℕ) (l : List ℕ) (kind : StepKind) → listedKind byte ≡ Listed kind
+    → bodyOf kind ≤ length l
     → P (stepOn w kind (take (bodyOf kind) l) .after) (drop (bodyOf kind) l) (later w kind l)
     → P w (byte ∷ l) (followedBy (first w kind l) (later w kind l))) where
   by-first : (w : World) (byte : ℕ) (l : List ℕ) → ((v : World) (n : ℕ) → P v (drop n l) (runOf v (drop n l)))
-      → (k : KindByte) → kindOf byte ≡ k → P w (byte ∷ l) (runOf w (byte ∷ l))
+      → (k : KindByte) → listedKind byte ≡ k → P w (byte ∷ l) (runOf w (byte ∷ l))
   by-first w byte l rest Unlisted e = rw (run-other w byte l e) (other w byte l e)
   by-first w byte l rest (Listed kind) e =
       on-less (length l) (bodyOf kind)
@@ -95,7 +97,7 @@ module _ (P : World → List ℕ → Run → Type 0)
   by-length zero w (byte ∷ l) h = absurd (omega arith)
   by-length (suc m) w [] h = rw (run-none w) (none w)
   by-length (suc m) w (byte ∷ l) h =
-      by-first w byte l (λ v n. by-length m v (drop n l) (simp length-drop (omega arith))) (kindOf byte) refl
+      by-first w byte l (λ v n. by-length m v (drop n l) (simp length-drop (omega arith))) (listedKind byte) refl
 
   pub each-run : (w : World) (input : List ℕ) → P w input (runOf w input)
   each-run w input = by-length (length input) w input (omega arith)
@@ -112,8 +114,8 @@ run-within =
     (λ w byte l kind e h r. omega (arith, length-drop (bodyOf kind) l))
 
 -- what the rest leaves is what the whole leaves
-pub left-later : (w : World) (byte : ℕ) (kind : Kind) (l : List ℕ) (r : Run)
-    → unused (followedBy (first w kind l) r) (byte ∷ l) ≡ unused r (drop (bodyOf kind) l)
+pub left-later : (w : World) (byte : ℕ) (kind : StepKind) (l : List ℕ) (r : Run)
+    → remaining (followedBy (first w kind l) r) (byte ∷ l) ≡ remaining r (drop (bodyOf kind) l)
 unfolding once followedBy
 left-later w byte kind l r =
     let n = bodyOf kind in
@@ -124,7 +126,7 @@ left-later w byte kind l r =
 pub few-left : FewLeft
 unfolding ended goesOn
 few-left =
-    each-run (λ w input q. goesOn (q .end) ≡ true → length (unused q input) ≤ 140)
+    each-run (λ w input q. goesOn (q .end) ≡ true → length (remaining q input) ≤ 140)
     (λ w g. omega arith)
     (λ w byte l e g. let z : _≡_ {A = ℕ} 0 1 = cc in absurd (omega arith))
     (λ w byte l kind e h g. omega (arith, body-most kind))

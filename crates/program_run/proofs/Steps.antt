@@ -6,6 +6,7 @@ use native.Mathlib.Omega.{arith}
 use borrow.Author.Tests.{eqb-true}
 use lib.Dec.{eqb}
 use lib.ListN.{length, take, drop, getD, replicate}
+use Rattle.target.specs.Limits.{blockSize}
 use Rattle.common.specs.Bytes.{wordAt}
 use Rattle.common.proofs.Cases.{on-test}
 use Rattle.common.proofs.Lists.{part-to-end}
@@ -18,10 +19,10 @@ use Rattle.rules.specs.Step.{Step, request, trapEvent, scheduleEvent, stateEven
 use Rattle.rules.specs.declared.Answer.{Answer}
 use Rattle.rules.specs.declared.Answer.the-variants.{Nothing, Stop, Pass, Yes, No}
 use Rattle.target.specs.declared.Target.{Target}
-use Rattle.program_run.specs.declared.Kind.{Kind}
-use Rattle.program_run.specs.declared.Kind.the-variants.{Request, Trap, Schedule, State, Restart}
+use Rattle.step.specs.declared.StepKind.{StepKind}
+use Rattle.step.specs.declared.StepKind.the-variants.{Request, Trap, Schedule, State, Restart}
 use Rattle.program_run.specs.declared.Stepped.{Stepped}
-use Rattle.program_run.specs.Encoding.{messageBytes, pidBytes, blockBytes, stepMost, bodyOf, encoded, stepOn}
+use Rattle.program_run.specs.Encoding.{messageBytes, pidBytes, stepMost, bodyOf, encoded, stepOn}
 use Rattle.rules.specs.Outcome.{shownWith, shown}
 use Rattle.program_run.specs.Written.{Writes, Steps}
 
@@ -68,7 +69,7 @@ shown-most t mem e =
 
 -- ---- the step of each kind
 
-pub body-most : (kind : Kind) → bodyOf kind ≤ pidBytes + blockBytes
+pub body-most : (kind : StepKind) → bodyOf kind ≤ pidBytes + blockSize
 unfolding bodyOf
 body-most Request = omega arith
 body-most Trap = omega arith
@@ -77,10 +78,10 @@ body-most State = omega arith
 body-most Restart = omega arith
 
 -- a body of a kind that is known
-pub length-known : (kind k : Kind) (body : List ℕ) → length body ≡ bodyOf kind → kind ≡ k → length body ≡ bodyOf k
+pub length-known : (kind k : StepKind) (body : List ℕ) → length body ≡ bodyOf kind → kind ≡ k → length body ≡ bodyOf k
 length-known kind k body h e = h ∙ ap bodyOf e
 
-module _ (w : World) (kind : Kind) (body : List ℕ) where
+module _ (w : World) (kind : StepKind) (body : List ℕ) where
   pub is-request : kind ≡ Request → requestOf house w body (replicate messageBytes 0) ≡ stepOn w kind body
   unfolding stepOn encoded stepOf
   is-request k = rw k
@@ -110,7 +111,7 @@ module _ (w : World) (kind : Kind) (body : List ℕ) where
 
 -- ---- what is written is what the outcome shows
 
-pub steps-few : (w : World) (kind : Kind) (body : List ℕ) (r : Stepped) (mem regs before after : List ℕ)
+pub steps-few : (w : World) (kind : StepKind) (body : List ℕ) (r : Stepped) (mem regs before after : List ℕ)
     → Steps (stepOn w kind body) r mem regs before after → r .filled ≤ stepMost
 unfolding stepOn
 steps-few w kind body r mem regs before after s =

@@ -2,13 +2,14 @@
 use Prim.Native.Nat.{ℕ, _+_}
 use mathlib.Core.List.{List, [], _∷_}
 use lib.ListN.{getD, drop, replicate}
+use Rattle.target.specs.Limits.{blockSize}
 use Rattle.common.specs.Bytes.{wordAt}
 use Rattle.common.specs.Keys.{arm, byKeys}
 use Rattle.memory.specs.Head.{house}
 use Rattle.rules.specs.Outcome.{World, Outcome}
 use Rattle.rules.specs.Step.{Step, request, trapEvent, scheduleEvent, stateEvent, restartStep, stepOf}
-use Rattle.program_run.specs.declared.Kind.{Kind}
-use Rattle.program_run.specs.declared.Kind.the-variants.{Request, Trap, Schedule, State, Restart}
+use Rattle.step.specs.declared.StepKind.{StepKind}
+use Rattle.step.specs.declared.StepKind.the-variants.{Request, Trap, Schedule, State, Restart}
 use Rattle.program_run.specs.declared.KindByte.{KindByte}
 use Rattle.program_run.specs.declared.KindByte.the-variants.{Listed, Unlisted}
 
@@ -18,12 +19,9 @@ use Rattle.program_run.specs.declared.KindByte.the-variants.{Listed, Unl
 abbrev pub messageBytes : ℕ
 messageBytes = 10
 
--- "pid 4, block 136"
+-- "pid 4"
 abbrev pub pidBytes : ℕ
 pidBytes = 4
-
-abbrev pub blockBytes : ℕ
-blockBytes = 136
 
 -- the most that a step writes: "the number, then ten bytes"
 abbrev pub stepMost : ℕ
@@ -32,29 +30,29 @@ stepMost = 1 + messageBytes
 -- ---- what is read
 
 -- "kind 1 request .., 2 trap .., 3 schedule .., 4 state .., 5 restart"; another byte is no kind
-unfoldable pub kindOf : ℕ → KindByte
-kindOf byte =
+unfoldable pub listedKind : ℕ → KindByte
+listedKind byte =
     byKeys
     (arm (1 ∷ []) (Listed Request) ∷ arm (2 ∷ []) (Listed Trap) ∷ arm (3 ∷ []) (Listed Schedule) ∷
     arm (4 ∷ []) (Listed State) ∷ arm (5 ∷ []) (Listed Restart) ∷ [])
     Unlisted byte
 
 -- how many bytes follow: "request (10), trap (pid 4, block 136), schedule (4, 136), state (4, 1), restart (0)"
-unfoldable pub bodyOf : Kind → ℕ
+unfoldable pub bodyOf : StepKind → ℕ
 bodyOf Request = messageBytes
-bodyOf Trap = pidBytes + blockBytes
-bodyOf Schedule = pidBytes + blockBytes
+bodyOf Trap = pidBytes + blockSize
+bodyOf Schedule = pidBytes + blockSize
 bodyOf State = pidBytes + 1
 bodyOf Restart = 0
 
 -- the step that a kind and its bytes encode, "pids high-order first", with the register area that is lent to it and a
 -- reply buffer of zeros
-unfoldable pub encoded : Kind → List ℕ → List ℕ → Step
+unfoldable pub encoded : StepKind → List ℕ → List ℕ → Step
 encoded Request body regs = request regs body (replicate messageBytes 0)
 encoded Trap body regs = trapEvent regs (wordAt body 0) (drop pidBytes body)
 encoded Schedule body regs = scheduleEvent regs (wordAt body 0) (drop pidBytes body)
 encoded State body regs = stateEvent regs (wordAt body 0) (getD body pidBytes 0)
 encoded Restart body regs = restartStep regs (replicate messageBytes 0)
 
-unfoldable pub stepOn : World → Kind → List ℕ → Outcome
+unfoldable pub stepOn : World → StepKind → List ℕ → Outcome
 stepOn w kind body = stepOf house (w .target) (w .mem) (encoded kind body (w .regs))

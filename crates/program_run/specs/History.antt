@@ -18,8 +18,8 @@ pub record Moment : Type 0 where
   pub mem : List ℕ
 
 -- after a setup
-unfoldable pub begun : Setup → Moment
-begun s = record { book = opened s; target = setupBy s .after .target; mem = s .mem }
+unfoldable pub firstMoment : Setup → Moment
+firstMoment s = record { book = opened s; target = setupBy s .after .target; mem = s .mem }
 
 -- an action: a step of the rules feeds the book; an outside change puts its byte in plain memory
 unfoldable pub afterAction : Setup → Moment → Action → Moment
@@ -53,14 +53,14 @@ EachAllowed s m (e ∷ es) = Allowed s m e × EachAllowed s (afterAction s m e) 
 
 -- the book after a setup and actions
 abbrev pub bookAfter : Setup → List Action → Book
-bookAfter s es = afterActions s (begun s) es .book
+bookAfter s es = afterActions s (firstMoment s) es .book
 
 -- the setup is accepted, and a record and memory are those that these actions left after it
 pub record LeftBy (s : Setup) (es : List Action) (t : Target) (mem : List ℕ) : Type 0 where
   pub accepted : setupBy s .number ≡ 0
-  pub allowed : EachAllowed s (begun s) es
-  pub target : t ≡ afterActions s (begun s) es .target
-  pub memory : mem ≡ afterActions s (begun s) es .mem
+  pub allowed : EachAllowed s (firstMoment s) es
+  pub target : t ≡ afterActions s (firstMoment s) es .target
+  pub memory : mem ≡ afterActions s (firstMoment s) es .mem
 
 -- What is promised of steps that lead from one record and memory to others: whatever actions left the first, the same
 -- actions and then the steps leave the others, and that memory is the book's: plain memory with the traps laid over it

@@ -4,15 +4,16 @@ use mathlib.Core.Path.{_≡_}
 use mathlib.Core.Bool.{true, cond}
 use mathlib.Core.List.{List, [], _∷_, _++_, flatten}
 use lib.ListN.{length, drop}
+use Rattle.target.specs.Limits.{blockSize}
 use Rattle.rules.specs.Outcome.{World}
 use Rattle.program_run.specs.declared.End.the-variants.{UsedUp, Full}
-use Rattle.program_run.specs.Encoding.{stepMost, pidBytes, blockBytes}
+use Rattle.program_run.specs.Encoding.{stepMost, pidBytes}
 use Rattle.program_run.specs.History.{AgreesWithBook}
 use Rattle.program_run.specs.Run.{Run, goesOn, ended, followedBy, runOf, runWithin}
 
 -- the bytes of the input that a run left: those of a step that the input cut short, or from another kind on
-abbrev pub unused : Run → List ℕ → List ℕ
-unused q input = drop (q .used) input
+abbrev pub remaining : Run → List ℕ → List ℕ
+remaining q input = drop (q .used) input
 
 -- ---- cutting the input
 
@@ -22,7 +23,7 @@ resumed q input = cond (goesOn (q .end)) (followedBy q (runOf (q .after) input))
 
 -- running two pieces one after the other, the second behind what the first left, is running them joined
 abbrev pub Joined : Type 0
-Joined = (w : World) (a b : List ℕ) → let q = runOf w a in runOf w (a ++ b) ≡ resumed q (unused q a ++ b)
+Joined = (w : World) (a b : List ℕ) → let q = runOf w a in runOf w (a ++ b) ≡ resumed q (remaining q a ++ b)
 
 -- pieces one after the other, each behind what was left, while more may follow
 unfoldable pub inPieces : Run → List ℕ → List (List ℕ) → Run
@@ -30,7 +31,7 @@ inPieces q left [] = q
 inPieces q left (piece ∷ pieces) =
     let input = left ++ piece in
     let r = runOf (q .after) input in
-    cond (goesOn (q .end)) (inPieces (followedBy q r) (unused r input) pieces) q
+    cond (goesOn (q .end)) (inPieces (followedBy q r) (remaining r input) pieces) q
 
 -- any cutting of the input gives the same output, end and world
 abbrev pub AnyCutting : Type 0
@@ -51,7 +52,7 @@ RoomEnough = (w : World) (input : List ℕ) (room : ℕ) → stepMost * length i
 abbrev pub FewLeft : Type 0
 FewLeft =
     (w : World) (input : List ℕ) → let q = runOf w input in
-    goesOn (q .end) ≡ true → length (unused q input) ≤ pidBytes + blockBytes
+    goesOn (q .end) ≡ true → length (remaining q input) ≤ pidBytes + blockSize
 
 -- ---- the book
 

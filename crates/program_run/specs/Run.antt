@@ -10,7 +10,7 @@ use Rattle.program_run.specs.declared.End.{End}
 use Rattle.program_run.specs.declared.End.the-variants.{UsedUp, Cut, OtherKind, Full}
 use Rattle.program_run.specs.declared.KindByte.{KindByte}
 use Rattle.program_run.specs.declared.KindByte.the-variants.{Listed, Unlisted}
-use Rattle.program_run.specs.Encoding.{stepMost, kindOf, bodyOf, encoded, stepOn}
+use Rattle.program_run.specs.Encoding.{stepMost, listedKind, bodyOf, encoded, stepOn}
 use Rattle.rules.specs.Outcome.{shown}
 
 -- ---- why a run ends
@@ -72,7 +72,7 @@ onKind w (Listed kind) l rest =
 
 unfoldable pub next : World → List ℕ → (World → List ℕ → Run) → Run
 next w [] rest = ended w UsedUp
-next w (byte ∷ l) rest = onKind w (kindOf byte) l rest
+next w (byte ∷ l) rest = onKind w (listedKind byte) l rest
 
 -- at most so many steps
 unfoldable pub run : ℕ → World → List ℕ → Run

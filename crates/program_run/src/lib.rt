@@ -1,6 +1,8 @@
 // Runs steps that are encoded as raw bytes, over a record and lent buffers.
 use rules::Answer;
+use step::StepKind;
 use step_effect::Done;
+use target::Process;
 use target::Target;
 ghost use mathlib.Core.Path.{_≡_};
 ghost use Prim.Native.Nat.{_≤_};
@@ -8,34 +10,22 @@ ghost use lib.ListN.{length, replicate};
 ghost use Rattle.memory.specs.Head.{house};
 ghost use Rattle.rules.specs.Outcome.{world, answerBytes};
 ghost use Rattle.rules.specs.Step.{requestOf, restartOf};
-ghost use Rattle.program_run.specs.Encoding.{messageBytes, stepMost, kindOf, bodyOf, stepOn};
+ghost use Rattle.program_run.specs.Encoding.{messageBytes, stepMost, listedKind, bodyOf, stepOn};
 ghost use Rattle.rules.specs.Outcome.{shownWith};
 ghost use Rattle.program_run.specs.Written.{Writes, Steps, RunLeaves};
 
-// The bytes of a request and of a reply, of a pid and of a saved block, the most that a step writes, and what another
-// kind writes.
+// The bytes of a request and of a reply, and of a pid, the most that a step writes, and what another kind writes.
 const MESSAGE: usize = 10;
 
 const PID: usize = 4;
-
-const BLOCK: usize = 136;
 
 const STEP_MOST: usize = 1 + MESSAGE;
 
 const OTHER_KIND: u8 = 0xff;
 
-// The kinds of step.
-enum Kind {
-    Request,
-    Trap,
-    Schedule,
-    State,
-    Restart,
-}
-
 // What the byte before a step says.
 enum KindByte {
-    Listed(Kind),
+    Listed(StepKind),
     Unlisted,
 }
 
@@ -61,29 +51,29 @@ struct Stepped {
     filled: usize,
 }
 
-fn kind_of(byte: u8) -> KindByte
-    ensures { λ r. ⌜ r ≡ kindOf byte ⌝ }
+fn listed_kind(byte: u8) -> KindByte
+    ensures { λ r. ⌜ r ≡ listedKind byte ⌝ }
 {
     match byte {
-        1 => KindByte::Listed(Kind::Request),
-        2 => KindByte::Listed(Kind::Trap),
-        3 => KindByte::Listed(Kind::Schedule),
-        4 => KindByte::Listed(Kind::State),
-        5 => KindByte::Listed(Kind::Restart),
+        1 => KindByte::Listed(StepKind::Request),
+        2 => KindByte::Listed(StepKind::Trap),
+        3 => KindByte::Listed(StepKind::Schedule),
+        4 => KindByte::Listed(StepKind::State),
+        5 => KindByte::Listed(StepKind::Restart),
         _ => KindByte::Unlisted,
     }
 }
 
 // How many bytes follow a kind.
-fn body_of(kind: Kind) -> usize
+fn body_of(kind: StepKind) -> usize
     ensures { λ r. ⌜ r ≡ bodyOf kind ⌝ }
 {
     match kind {
-        Kind::Request => MESSAGE,
-        Kind::Trap => PID + BLOCK,
-        Kind::Schedule => PID + BLOCK,
-        Kind::State => PID + 1,
-        Kind::Restart => 0,
+        StepKind::Request => MESSAGE,
+        StepKind::Trap => PID + Process::BLOCK,
+        StepKind::Schedule => PID + Process::BLOCK,
+        StepKind::State => PID + 1,
+        StepKind::Restart => 0,
     }
 }
 
@@ -189,7 +179,7 @@ fn step(
     t: Target,
     mem: &mut [u8],
     regs: &mut [u8],
-    kind: Kind,
+    kind: StepKind,
     body: &[u8],
     out: &mut [u8],
 ) -> Stepped
@@ -199,23 +189,23 @@ fn step(
         r (now (mem .exit)) (now (regs .exit)) (now (out .entry)) (now (out .exit)) ⌝ }
 {
     match kind {
-        Kind::Request => request(t, mem, regs, body, out),
-        Kind::Trap => {
+        StepKind::Request => request(t, mem, regs, body, out),
+        StepKind::Trap => {
             let pid = common::word_at(body, 0);
             let done = stub::trap(t, mem, regs, pid, &body[PID..]);
             answered(done, out)
         }
-        Kind::Schedule => {
+        StepKind::Schedule => {
             let pid = common::word_at(body, 0);
             let done = stub::schedule(t, mem, regs, pid, &body[PID..]);
             answered(done, out)
         }
-        Kind::State => {
+        StepKind::State => {
             let pid = common::word_at(body, 0);
             let done = stub::state(t, mem, regs, pid, body[PID]);
             answered(done, out)
         }
-        Kind::Restart => restart(t, mem, regs, out),
+        StepKind::Restart => restart(t, mem, regs, out),
     }
 }
 
@@ -245,7 +235,7 @@ pub fn run(t: Target, mem: &mut [u8], regs: &mut [u8], input: &[u8], output: &mu
     let mut used: usize = 0;
     let mut filled: usize = 0;
     while used < input.len() {
-        let byte = kind_of(input[used]);
+        let byte = listed_kind(input[used]);
         let KindByte::Listed(kind) = byte else {
             output[filled] = OTHER_KIND;
             return ended(u, used, filled + 1, End::OtherKind);

@@ -37,12 +37,14 @@ unfolding entryOf
 id-found t s id r = ap (firstOf (eqb id)) r
 
 -- no breakpoint is at an address where the search ends
-pub at-end : (es : List Entry) (address : ℕ) → length es ≡ 8 → eqb (breakpointAt es address) 8 ≡ leb (length es) (breakpointAt es address)
+pub at-end : (es : List Entry) (address : ℕ) → length es ≡ 8
+    → eqb (breakpointAt es address) 8 ≡ leb (length es) (breakpointAt es address)
 unfolding breakpointAt
 at-end es address h =
     let k = breakpointAt es address in
     let z = first-within (isAt address) es in
-    on-less k 8 (λ l. ne-eqb k 8 (λ e. omega arith) ∙ sym (lt-leb (length es) k (omega arith))) (λ l. eq-eqb k 8 (omega arith) ∙ sym (le-leb (length es) k (omega arith)))
+    on-less k 8 (λ l. ne-eqb k 8 (λ e. omega arith) ∙ sym (lt-leb (length es) k (omega arith)))
+    (λ l. eq-eqb k 8 (omega arith) ∙ sym (le-leb (length es) k (omega arith)))
 
 -- ---- the requests
 

@@ -28,17 +28,16 @@ ghost use Rattle.request_condbreak.specs.Plantable.{Plantable};
 
 // A change of the record, and Rcondbreak.
 fn done(change: Change) -> Served
-    ensures {
-        λ r. ⌜ ((t : Target) (mem regs : List ℕ) → servedOutcome t r mem regs
-        ≡ replied message.Rcondbreak (world (applied t change (replicate 16 0)) mem regs)) ⌝
-    }
+    ensures { λ r. ⌜ ((t : Target) (mem regs : List ℕ) → servedOutcome t r mem regs
+        ≡ replied message.Rcondbreak (world (applied t change (replicate 16 0)) mem regs)) ⌝ }
 {
     Served::with(change, wire::bytes_of(Message::Rcondbreak))
 }
 
 // Rerr, with the condition in hand dropped.
 pub fn fail(reason: Reason) -> Served
-    ensures { λ r. ⌜ ((t : Target) (mem regs : List ℕ) → servedOutcome t r mem regs ≡ failed reason (world t mem regs)) ⌝ }
+    ensures { λ r. ⌜ ((t : Target) (mem regs : List ℕ) → servedOutcome t r mem regs ≡ failed reason (world t mem regs))
+        ⌝ }
 {
     Served::with(Change::Drop, wire::bytes_of(Message::Rerr { reason }))
 }
@@ -46,9 +45,7 @@ pub fn fail(reason: Reason) -> Served
 // `n`: begins a condition.
 fn begin(t: Target, s: Scan, val: u32) -> Served
     requires { ⌜ s .ids ≡ idsOf (t .table .entries) ⌝ }
-    ensures {
-        λ r. ⌜ ((mem regs : List ℕ) → servedOutcome t r mem regs ≡ beginCondition (world t mem regs) val) ⌝
-    }
+    ensures { λ r. ⌜ ((mem regs : List ℕ) → servedOutcome t r mem regs ≡ beginCondition (world t mem regs) val) ⌝ }
 {
     if Entry::LAST_ID < val {
         return fail(Reason::Inval);
@@ -57,7 +54,7 @@ fn begin(t: Target, s: Scan, val: u32) -> Served
     if target_scan::entry_of(&ids, val) < Table::ENTRIES {
         return fail(Reason::Inval);
     }
-    if target_scan::entry_of(&ids, Scan::NO_ID) == Table::ENTRIES {
+    if target_scan::entry_of(&ids, Scan::FREE_ID) == Table::ENTRIES {
         return fail(Reason::Count);
     }
     let id = val as u8;
@@ -66,10 +63,8 @@ fn begin(t: Target, s: Scan, val: u32) -> Served
 
 // An element joins the condition in hand.
 fn add(t: Target, letter: u8, value: u32) -> Served
-    ensures {
-        λ r. ⌜ ((mem regs : List ℕ) → servedOutcome t r mem regs
-        ≡ addElement (world t mem regs) (record { letter = letter; value = value })) ⌝
-    }
+    ensures { λ r. ⌜ ((mem regs : List ℕ) → servedOutcome t r mem regs
+        ≡ addElement (world t mem regs) (record { letter = letter; value = value })) ⌝ }
 {
     let table = t.table;
     let d = table.draft;
@@ -88,10 +83,8 @@ fn add(t: Target, letter: u8, value: u32) -> Served
 // Makes a breakpoint of the condition in hand, at a site of the window.
 fn plant<'a>(t: Target, s: Scan, mem: &'a mut [u8], site: u32) -> Served
     requires { ⌜ Plantable t s (now mem) site ⌝ }
-    ensures {
-        λ r. ⌜ ((regs : List ℕ) → servedOutcome t r (now (mem .exit)) regs
-        ≡ replied message.Rcondbreak (planted house (world t (now (mem .entry)) regs) site)) ⌝
-    }
+    ensures { λ r. ⌜ ((regs : List ℕ) → servedOutcome t r (now (mem .exit)) regs
+        ≡ replied message.Rcondbreak (planted house (world t (now (mem .entry)) regs) site)) ⌝ }
 {
     let sites = s.sites;
     let plain = s.plain;
@@ -116,10 +109,8 @@ fn site_free(t: Target, s: Scan, val: u32) -> bool
 // `b`: sets the condition in hand as a breakpoint.
 fn set<'a>(t: Target, s: Scan, mem: &'a mut [u8], regs: &'a [u8], val: u32) -> Served
     requires { ⌜ Ready house t s (now mem) (now regs) ⌝ }
-    ensures {
-        λ r. ⌜ servedOutcome t r (now (mem .exit)) (now (regs .entry))
-        ≡ setBreakpoint house (world t (now (mem .entry)) (now (regs .entry))) val ⌝
-    }
+    ensures { λ r. ⌜ servedOutcome t r (now (mem .exit)) (now (regs .entry))
+        ≡ setBreakpoint house (world t (now (mem .entry)) (now (regs .entry))) val ⌝ }
 {
     let table = t.table;
     let d = table.draft;
@@ -139,10 +130,8 @@ fn set<'a>(t: Target, s: Scan, mem: &'a mut [u8], regs: &'a [u8], val: u32) -> S
 // `d`: removes the breakpoint with an id. The condition in hand stays.
 fn delete<'a>(t: Target, s: Scan, mem: &'a mut [u8], regs: &'a [u8], val: u32) -> Served
     requires { ⌜ Ready house t s (now mem) (now regs) ⌝ }
-    ensures {
-        λ r. ⌜ servedOutcome t r (now (mem .exit)) (now (regs .entry))
-        ≡ deleteBreakpoint (world t (now (mem .entry)) (now (regs .entry))) val ⌝
-    }
+    ensures { λ r. ⌜ servedOutcome t r (now (mem .exit)) (now (regs .entry))
+        ≡ deleteBreakpoint (world t (now (mem .entry)) (now (regs .entry))) val ⌝ }
 {
     let unknown = wire::bytes_of(Message::Rerr {
         reason: Reason::Inval,
@@ -169,10 +158,8 @@ pub fn condbreak<'a>(
     op: u8,
 ) -> Served
     requires { ⌜ Ready house t s (now mem) (now regs) ⌝ }
-    ensures {
-        λ r. ⌜ servedOutcome t r (now (mem .exit)) (now (regs .entry))
-        ≡ condbreakOf house (world t (now (mem .entry)) (now (regs .entry))) val op ⌝
-    }
+    ensures { λ r. ⌜ servedOutcome t r (now (mem .exit)) (now (regs .entry))
+        ≡ condbreakOf house (world t (now (mem .entry)) (now (regs .entry))) val op ⌝ }
 {
     match op {
         b'n' => begin(t, s, val),

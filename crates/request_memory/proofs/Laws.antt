@@ -1,4 +1,5 @@
--- Laws of the current process's block, of a record that is ready, and of what a read answers and a write leaves. Assumes nothing.
+-- Laws of the current process's block, of a record that is ready, and of what a read answers and a write leaves.
+-- Assumes nothing.
 use mathlib.Core.Path.{_≡_, refl, sym, ap, _∙_}
 use mathlib.Core.Bool.{Bool, true, false, cond}
 use mathlib.Core.List.{List}
@@ -55,7 +56,8 @@ module _ (t : Target) where
   block-none h = rw (eq-eqb (t .selected) 0 h)
 
   -- a current process is listed
-  pub block-unlisted : (t .selected ≡ 0 → ⊥) → currentFit (t .selected) (t .current) (t .processes) (t .count) ≡ true → (l : Lookup)
+  pub block-unlisted : (t .selected ≡ 0 → ⊥) → currentFit (t .selected) (t .current) (t .processes) (t .count) ≡ true
+      → (l : Lookup)
       → l ≡ findOf t (t .current) → l ≡ Unlisted → Refused Notstop ≡ blockOf t
   unfolding currentFit findOf
   block-unlisted h f l e g =
@@ -79,7 +81,8 @@ unfoldable onIt : Block → World → (ℕ → Outcome) → Outcome
 onIt (block.At i) w serve = serve i
 onIt (Refused r) w serve = error r w
 
-on-it : (w : World) (serve : ℕ → Outcome) (b c : Block) → c ≡ blockOf (w .target) → c ≡ b → onIt b w serve ≡ onBlock w serve
+on-it : (w : World) (serve : ℕ → Outcome) (b c : Block) → c ≡ blockOf (w .target) → c ≡ b
+    → onIt b w serve ≡ onBlock w serve
 unfolding onBlock blockOf onIt
 on-it w serve b c f e = rw (sym e ∙ f) (by (eqb (t .selected) 0) (isStopped (processAt (t .processes) i)))
   where
@@ -95,13 +98,15 @@ on-it w serve b c f e = rw (sym e ∙ f) (by (eqb (t .selected) 0) (isStopped (p
     by false true = refl
     by false false = refl
 
-at-index : (a b : Bool) (i k : ℕ) → block.At i ≡ cond a (Refused Pid) (cond b (block.At k) (Refused Notstop)) → (a ≡ false) × (i ≡ k)
+at-index : (a b : Bool) (i k : ℕ) → block.At i ≡ cond a (Refused Pid) (cond b (block.At k) (Refused Notstop))
+    → (a ≡ false) × (i ≡ k)
 at-index true b i k e = (cc, cc)
 at-index false true i k e = (refl, cc)
 at-index false false i k e = (cc, cc)
 
 -- the current process's block is one of the register area
-pub block-within : (t : Target) (regs : List ℕ) → Blocks t regs → (b : Block) (i : ℕ) → b ≡ blockOf t → b ≡ block.At i → 136 * i + 136 ≤ length regs
+pub block-within : (t : Target) (regs : List ℕ) → Blocks t regs → (b : Block) (i : ℕ) → b ≡ blockOf t → b ≡ block.At i
+    → 136 * i + 136 ≤ length regs
 unfolding blockOf currentFit
 block-within t regs l b i f e =
     let k = indexOf t (t .current) in
@@ -113,7 +118,12 @@ block-within t regs l b i f e =
 
 module _ (t : Target) (s : Scan) (mem regs : List ℕ) (r : Ready house t s mem regs) where
   pub ready-listed : Blocks t regs
-  ready-listed = record { few = fit-few house t mem (r .fit); registers = r .registers; current = tests-of t mem (r .fit) .current }
+  ready-listed = record {
+    few = fit-few house t mem (r .fit);
+    registers = r .registers;
+    current = tests-of t mem
+        (r .fit) .current;
+  }
 
 -- ---- the replies
 
@@ -139,12 +149,14 @@ module _ (w : World) (reply : List ℕ) where
 
 module _ (w : World) (addr n : ℕ) where
   -- what is got from the current process's block
-  pub got-registers : (b : Block) → b ≡ blockOf (w .target) → ((i : ℕ) → b ≡ block.At i → 136 * i + 136 ≤ length (w .regs))
+  pub got-registers : (b : Block) → b ≡ blockOf (w .target)
+      → ((i : ℕ) → b ≡ block.At i → 136 * i + 136 ≤ length (w .regs))
       → addr + n ≤ 136 → (reply : List ℕ) → reply ≡ blockReply b (take n (drop addr (blockPart b (w .regs))))
       → outcome 0 Nothing w reply ≡ gotFrom Registers w addr n
   unfolding gotFrom onIt blockPart blockReply blockAt
   got-registers (block.At i) f within h reply e =
-      answers w reply _ e addr n _ (part-bytes (w .regs) (136 * i) addr n 9 h (within i refl)) ∙ on-it w _ (block.At i) _ f refl
+      answers w reply _ e addr n _ (part-bytes (w .regs) (136 * i) addr n 9 h (within i refl))
+      ∙ on-it w _ (block.At i) _ f refl
   got-registers (Refused r) f within h reply e = refuses w reply r e ∙ on-it w _ (Refused r) _ f refl
 
   -- what is got from the place that the address names
@@ -156,10 +168,13 @@ module _ (w : World) (addr n : ℕ) where
 -- ---- the plain bytes of a record's table
 
 -- a scan's plain bytes are sixteen, before a write and after it
-pub sixteen : (t : Target) (vs : List Val) (s : Scan) (mem regs : List ℕ) → Is target.the-row t vs → Ready house t s mem regs → 16 ≡ length (s .plain)
-sixteen t vs s mem regs h r = sym (ap length (r .plain) ∙ sixteen-plains (t .table .entries) (eight-entries t vs h) (two-each t vs h))
+pub sixteen : (t : Target) (vs : List Val) (s : Scan) (mem regs : List ℕ) → Is target.the-row t vs
+    → Ready house t s mem regs → 16 ≡ length (s .plain)
+sixteen t vs s mem regs h r =
+    sym (ap length (r .plain) ∙ sixteen-plains (t .table .entries) (eight-entries t vs h) (two-each t vs h))
 
-pub length-after : (w : ℕ) (ss ps : List ℕ) (at : ℕ) (bytes plain : List ℕ) → plain ≡ plainAfter w ss ps at bytes → length ps ≡ length plain
+pub length-after : (w : ℕ) (ss ps : List ℕ) (at : ℕ) (bytes plain : List ℕ) → plain
+    ≡ plainAfter w ss ps at bytes → length ps ≡ length plain
 unfolding plainAfter
 length-after w ss ps at bytes plain e = sym (ap length e ∙ length-tab (length ps) _)
 
@@ -171,7 +186,8 @@ module _ (w : World) (addr : ℕ) (bytes : List ℕ) where
   unfolding putTo
   put-zero h = rw (le-leb addr 3 h)
 
-  pub put-refused : 3 < addr → (b : Block) (r : Reason) → b ≡ blockOf (w .target) → b ≡ Refused r → error r w ≡ putTo Registers w addr bytes
+  pub put-refused : 3 < addr → (b : Block) (r : Reason) → b ≡ blockOf (w .target) → b ≡ Refused r
+      → error r w ≡ putTo Registers w addr bytes
   unfolding putTo onIt
   put-refused h b r f t = rw (lt-leb addr 3 h) (on-it w _ (Refused r) b f t)
 
@@ -182,10 +198,12 @@ module _ (w : World) (addr : ℕ) (bytes : List ℕ) where
   put-block h b i f t regs reply e r = rw (e, r, lt-leb addr 3 h) (on-it w _ (block.At i) b f t)
 
   module _ (ss ps : List ℕ) (e : ss ≡ sites (w .target)) (f : ps ≡ plains (w .target)) (mem plain reply : List ℕ)
-      (m : mem ≡ memAfter 2 ss (w .mem) (addr - w .target .base) bytes) (p : plain ≡ plainAfter 2 ss ps (addr - w .target .base) bytes)
+      (m : mem ≡ memAfter 2 ss (w .mem) (addr - w .target .base) bytes) (p : plain
+      ≡ plainAfter 2 ss ps (addr - w .target .base) bytes)
       (r : reply ≡ bytesOf Rmput) where
     -- the window's bytes, and the table with the slots' bytes taken
-    pub put-window : outcome 0 Nothing (world (applied (w .target) Plain plain) mem (w .regs)) reply ≡ putTo Window w addr bytes
+    pub put-window : outcome 0 Nothing (world (applied (w .target) Plain plain) mem (w .regs)) reply
+        ≡ putTo Window w addr bytes
     unfolding putTo replied windowWritten applied
     put-window = rw (m, p, r, e, f)
 
@@ -195,8 +213,10 @@ module _ (w : World) (addr : ℕ) (bytes : List ℕ) where
     unfolding applied withEntries withTable
     put-same two same =
         let es = w .target .table .entries in
-        let kept : withPlains es plain ≡ es = ap (withPlains es) (sym (same-eq ps plain same) ∙ f) ∙ with-plains es two in
-        ap (λ (l : List Entry). outcome 0 Nothing (world (withEntries (w .target) l) mem (w .regs)) reply) (sym kept) ∙ put-window
+        let kept : withPlains es plain ≡ es = ap (withPlains es) (sym (same-eq ps plain same) ∙ f)
+        ∙ with-plains es two in
+        ap (λ (l : List Entry). outcome 0 Nothing (world (withEntries (w .target) l) mem (w .regs)) reply) (sym kept)
+        ∙ put-window
 
 module _ (w : World) (addr n : ℕ) (d : Data4) where
   pub put-none : n ≡ 0 → (reply : List ℕ) → reply ≡ bytesOf Rmput → outcome 0 Nothing w reply ≡ mput w addr n d

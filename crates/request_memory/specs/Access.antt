@@ -27,7 +27,8 @@ pub record Blocks (t : Target) (regs : List ℕ) : Type 0 where
 unfoldable pub blockOf : Target → Block
 blockOf t =
     cond (eqb (t .selected) 0) (Refused Pid)
-    (cond (isStopped (processAt (t .processes) (indexOf t (t .current)))) (At (indexOf t (t .current))) (Refused Notstop))
+    (cond (isStopped (processAt (t .processes) (indexOf t (t .current)))) (At (indexOf t (t .current)))
+    (Refused Notstop))
 
 -- its bytes, none where it may not be used
 unfoldable pub blockPart : Block → List ℕ → List ℕ

@@ -1,15 +1,15 @@
 // Tmget and Tmput, over a fit record and its table as arrays.
-use target_fit::Lookup;
-use target_fit::Scan;
 use memory::Place;
 use step_effect::Change;
 use step_effect::Served;
 use target::Process;
 use target::Target;
-use wire_text::Reason;
+use target_fit::Lookup;
+use target_fit::Scan;
 use wire::Data4;
 use wire::Data9;
 use wire::Message;
+use wire_text::Reason;
 ghost use mathlib.Core.Path.{_≡_};
 ghost use mathlib.Core.List.{List};
 ghost use mathlib.Core.Bool.{true};
@@ -106,10 +106,8 @@ fn block_reply(block: Block, part: &[u8]) -> [u8; 10]
 // Tmget: the stretch that the address names is a part of the block or of the window, read as it is or under traps.
 pub fn mget<'a>(t: Target, s: Scan, mem: &'a [u8], regs: &'a [u8], addr: u32, n: u8) -> [u8; 10]
     requires { ⌜ Ready house t s (now mem) (now regs) ⌝ }
-    ensures {
-        λ r. ⌜ outcome 0 Nothing (world t (now (mem .entry)) (now (regs .entry))) r
-        ≡ mgetOf (world t (now (mem .entry)) (now (regs .entry))) addr n ⌝
-    }
+    ensures { λ r. ⌜ outcome 0 Nothing (world t (now (mem .entry)) (now (regs .entry))) r
+        ≡ mgetOf (world t (now (mem .entry)) (now (regs .entry))) addr n ⌝ }
 {
     if n == 0 {
         return rmget([0; 9]);
@@ -131,10 +129,8 @@ pub fn mget<'a>(t: Target, s: Scan, mem: &'a [u8], regs: &'a [u8], addr: u32, n:
 // A write below 136, of the current process's block; register zero is not written.
 fn put_registers(t: Target, regs: &mut [u8], addr: u32, bytes: &[u8]) -> [u8; 10]
     requires { ⌜ Blocks t (now regs) × (addr + length (now bytes) ≤ blockSize) ⌝ }
-    ensures {
-        λ r. ⌜ ((mem : List ℕ) → outcome 0 Nothing (world t mem (now (regs .exit))) r
-        ≡ putTo place.Registers (world t mem (now (regs .entry))) addr (now (bytes .entry))) ⌝
-    }
+    ensures { λ r. ⌜ ((mem : List ℕ) → outcome 0 Nothing (world t mem (now (regs .exit))) r
+        ≡ putTo place.Registers (world t mem (now (regs .entry))) addr (now (bytes .entry))) ⌝ }
 {
     if addr <= 3 {
         return rerr(Reason::Inval);
@@ -162,10 +158,8 @@ pub fn mput(
 ) -> Served
     requires { ⌜ Ready house t s (now mem) (now regs) ⌝ }
     requires { ⌜ n ≤ 4 ⌝ }
-    ensures {
-        λ r. ⌜ servedOutcome t r (now (mem .exit)) (now (regs .exit))
-        ≡ mputOf (world t (now (mem .entry)) (now (regs .entry))) addr n d ⌝
-    }
+    ensures { λ r. ⌜ servedOutcome t r (now (mem .exit)) (now (regs .exit))
+        ≡ mputOf (world t (now (mem .entry)) (now (regs .entry))) addr n d ⌝ }
 {
     let rmput = wire::bytes_of(Message::Rmput);
     if n == 0 {

@@ -25,7 +25,7 @@ use Rattle.wire.specs.declared.Message.{Message}
 use Rattle.wire.specs.declared.Message.the-variants as message
 use Rattle.wire.specs.declared.Reading.the-variants.{Accepted, NoMessage}
 use Rattle.wire_text.specs.declared.Reason.the-variants.{Count, Inval}
-use Rattle.request_parse.specs.Exact.{asRead, readBy, Exact}
+use Rattle.request_parse.specs.Exact.{asRead, exactBy, Exact}
 use Rattle.request_parse.specs.Request.{counted, unused, lettered, parsedBy, parseOf}
 use Rattle.request_parse.specs.declared.Parsed.{Parsed}
 use Rattle.request_parse.specs.declared.Parsed.the-variants.{Request, Refused}
@@ -102,8 +102,8 @@ module _ (l : List ℕ) (b : Bytes l) (ten : length l ≡ 10) where
   with-data : sameList (getD l 5 0 ∷ bytes4 (data4 l)) (drop 5 l) ≡ true
   with-data = rw (last-five l ten, last-four l ten) (same-refl _)
 
-  arms : (k : Kind) → kindOf (getD l 0 0) ≡ k → parsedBy k (wordAt l 1) (getD l 5 0) l ≡ readBy k l
-  unfolding parsedBy counted lettered unused readBy Typed candidateBy
+  arms : (k : Kind) → kindOf (getD l 0 0) ≡ k → parsedBy k (wordAt l 1) (getD l 5 0) l ≡ exactBy k l
+  unfolding parsedBy counted lettered unused exactBy Typed candidateBy
       isMessage isPut bytesOf typeOf fieldsOf bytes4 padded lowFirst highFirst
   arms Tmget e =
       rw (read-by Tmget _ 2 (getD l 5 0 ∷ replicate 4 0) e refl (type-of _ Tmget e) refl, with-byte)

@@ -24,19 +24,19 @@ asRead WrongSize = Refused Inval
 asRead NoMessage = Refused Inval
 
 -- the same after the reasons that come before inval
-unfoldable pub readBy : Kind → List ℕ → Parsed
-readBy Unknown l = Refused Unk
-readBy Unsupported l = Refused Unsup
-readBy Tmget l = counted (getD l 5 0) 9 (asRead (readOf l))
-readBy Tmput l = counted (getD l 5 0) 4 (asRead (readOf l))
-readBy Tproc l = asRead (readOf l)
-readBy Tstatus l = asRead (readOf l)
-readBy Trnote l = asRead (readOf l)
-readBy Tstop l = asRead (readOf l)
-readBy Tstart l = asRead (readOf l)
-readBy Tcondbreak l = asRead (readOf l)
+unfoldable pub exactBy : Kind → List ℕ → Parsed
+exactBy Unknown l = Refused Unk
+exactBy Unsupported l = Refused Unsup
+exactBy Tmget l = counted (getD l 5 0) 9 (asRead (readOf l))
+exactBy Tmput l = counted (getD l 5 0) 4 (asRead (readOf l))
+exactBy Tproc l = asRead (readOf l)
+exactBy Tstatus l = asRead (readOf l)
+exactBy Trnote l = asRead (readOf l)
+exactBy Tstop l = asRead (readOf l)
+exactBy Tstart l = asRead (readOf l)
+exactBy Tcondbreak l = asRead (readOf l)
 
 -- "a served T-message whose numbers pass the count, unused-byte and op rules": reading accepts exactly what these rules
 -- pass
 abbrev pub Exact : Type 0
-Exact = (l : List ℕ) → Bytes l → length l ≡ 10 → parseOf l ≡ readBy (kindOf (getD l 0 0)) l
+Exact = (l : List ℕ) → Bytes l → length l ≡ 10 → parseOf l ≡ exactBy (kindOf (getD l 0 0)) l

@@ -1,4 +1,5 @@
--- Laws of the requests on a process: whether it is listed, its state, its saved pc and the breakpoint there. Assumes nothing.
+-- Laws of the requests on a process: whether it is listed, its state, its saved pc and the breakpoint there. Assumes
+-- nothing.
 use mathlib.Core.Path.{_≡_, refl, ap}
 use mathlib.Core.Bool.{false, cond}
 use mathlib.Core.List.{List}
@@ -102,7 +103,8 @@ module _ (w : World) (pid : ℕ) (l : Lookup) (e : l ≡ findOf (w .target) pid)
   -- no breakpoint: only the state is set
   pub start-none : 8 ≤ k → replied Rstart (withTarget w (setState (w .target) i ready 0)) ≡ start w pid
   unfolding start setState withProcesses
-  start-none h = rw (none-at (withTarget w (setState (w .target) i ready 0)) pc k z f h, p) (when-stopped _ _ _ e _ _ g _ _ _ s)
+  start-none h = rw (none-at (withTarget w (setState (w .target) i ready 0)) pc k z f h, p)
+      (when-stopped _ _ _ e _ _ g _ _ _ s)
 
   -- a breakpoint: it is removed; a state set changes neither its entry nor the base, so memory is as without it
   pub start-one : k < 8 → (mem : List ℕ) → world (withoutEntry (w .target) k) mem (w .regs) ≡ removed w k
@@ -113,5 +115,6 @@ module _ (w : World) (pid : ℕ) (l : Lookup) (e : l ≡ findOf (w .target) pid)
       (when-stopped _ _ _ e _ _ g _ _ _ s)
 
 -- the entry of a breakpoint that is found is used
-pub used-at : (es : List Entry) (address k : ℕ) → length es ≡ 8 → k ≡ breakpointAt es address → k < 8 → isFree (entryAt es k) ≡ false
+pub used-at : (es : List Entry) (address k : ℕ) → length es ≡ 8 → k ≡ breakpointAt es address → k < 8
+    → isFree (entryAt es k) ≡ false
 used-at es address k z e h = rw e (at-used es address (omega arith))

@@ -1,13 +1,13 @@
 // Tproc, Tstatus, Trnote, Tstop and Tstart, over a fit record.
-use target_fit::Lookup;
-use target_fit::Scan;
 use step_effect::Change;
 use step_effect::Served;
 use target::Process;
 use target::Table;
 use target::Target;
-use wire_text::Reason;
+use target_fit::Lookup;
+use target_fit::Scan;
 use wire::Message;
+use wire_text::Reason;
 ghost use mathlib.Core.Path.{_≡_};
 ghost use mathlib.Core.List.{List};
 ghost use Prim.Native.Nat.{ℕ, _≤_};
@@ -21,9 +21,8 @@ ghost use Rattle.target.specs.Limits.{maxProcesses};
 ghost use Rattle.wire_text.specs.declared.Reason.the-variants as reason;
 
 fn no_process() -> Served
-    ensures {
-        λ r. ⌜ ((t : Target) (mem regs : List ℕ) → servedOutcome t r mem regs ≡ error reason.Pid (world t mem regs)) ⌝
-    }
+    ensures { λ r. ⌜ ((t : Target) (mem regs : List ℕ) → servedOutcome t r mem regs
+        ≡ error reason.Pid (world t mem regs)) ⌝ }
 {
     Served::with(
         Change::Same,
@@ -94,10 +93,8 @@ pub fn stop(t: Target, pid: u32) -> Served
 // Tstart: clears the mark; a Stopped process becomes Ready, and a breakpoint at its saved pc is removed.
 pub fn start<'a>(t: Target, s: Scan, mem: &'a mut [u8], regs: &'a [u8], pid: u32) -> Served
     requires { ⌜ Ready house t s (now mem) (now regs) ⌝ }
-    ensures {
-        λ r. ⌜ servedOutcome t r (now (mem .exit)) (now (regs .entry))
-        ≡ startOf (world t (now (mem .entry)) (now (regs .entry))) pid ⌝
-    }
+    ensures { λ r. ⌜ servedOutcome t r (now (mem .exit)) (now (regs .entry))
+        ≡ startOf (world t (now (mem .entry)) (now (regs .entry))) pid ⌝ }
 {
     let found = target_fit::find(t, pid);
     let Lookup::At(i, p) = found else {

@@ -21,10 +21,8 @@ ghost use Rattle.rules.specs.Request.{drops, refusedBy, serve as serveOf};
 pub fn serve(t: Target, s: Scan, mem: &mut [u8], regs: &mut [u8], m: Message) -> Served
     requires { ⌜ Ready house t s (now mem) (now regs) ⌝ }
     requires { ⌜ isMessage m ≡ true ⌝ }
-    ensures {
-        λ r. ⌜ servedOutcome t r (now (mem .exit)) (now (regs .exit))
-        ≡ serveOf house (world t (now (mem .entry)) (now (regs .entry))) m ⌝
-    }
+    ensures { λ r. ⌜ servedOutcome t r (now (mem .exit)) (now (regs .exit))
+        ≡ serveOf house (world t (now (mem .entry)) (now (regs .entry))) m ⌝ }
 {
     match m {
         Message::Tmget { addr, n } => {
@@ -63,10 +61,8 @@ fn drops_draft(s: &[u8]) -> bool
 // A request that its ten bytes refuse.
 pub fn refuse(s: &[u8], reason: Reason) -> Served
     requires { ⌜ length (now s) ≡ 10 ⌝ }
-    ensures {
-        λ r. ⌜ ((t : Target) (mem regs : List ℕ) → servedOutcome t r mem regs
-        ≡ refusedBy (world t mem regs) (now (s .entry)) reason) ⌝
-    }
+    ensures { λ r. ⌜ ((t : Target) (mem regs : List ℕ) → servedOutcome t r mem regs
+        ≡ refusedBy (world t mem regs) (now (s .entry)) reason) ⌝ }
 {
     if drops_draft(s) {
         return request_condbreak::fail(reason);

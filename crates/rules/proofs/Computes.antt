@@ -37,22 +37,21 @@ use Rattle.rules.specs.Event.{onListed, holds, trapped, trap, schedule, 
 use Rattle.rules.specs.Step.{setupBy, beginning, setupTarget, setupOf, sized, checked, requestOf, trapOf}
 use Rattle.rules.specs.Step.{scheduleOf, stateOf, restartOf}
 use Rattle.rules.specs.Step.{stepOf}
-use Rattle.rules.specs.Worked.{run, after}
+use Rattle.rules.specs.Worked.{shownBy, after}
 use Rattle.rules.specs.Step.{isAccepted}
 use Rattle.rules.specs.Book.{opened, realBy, sitesBy, trapBy, trapNumber, answerAmong, answerOf, fetchBy, readBy}
 use Rattle.rules.specs.Book.{withPlain, withPending, withBreakpoints, withStopped, removing, others, joins}
 use Rattle.rules.specs.Book.{bookStart, bookAnswer}
 use Rattle.rules.specs.Book.{intoWindow, inWindow, bookWrite, sets, bookCondbreak, bookServed, bookRequest, fed}
 use Rattle.rules.specs.Claim.{Says}
-use Rattle.rules.specs.Stubs as stubs
-use Rattle.rules.specs.Stubs.{changing, rerrAlways, zerosAlways, leaving, storesNothing, plantsFirstOnly}
-use Rattle.rules.specs.Stubs.{plantsNothing}
+use Rattle.rules.specs.Stubs.{kindNumber, changing, rerrAlways, zerosAlways, requestLeaving, storesNothing}
+use Rattle.rules.specs.Stubs.{plantsFirstOnly, plantsNothing}
 use Rattle.rules.specs.Stubs.{readsReal, findsNoSite, neverStops, acceptsStates, answersStates, zeroRestart}
 use Rattle.rules.specs.Stubs.{keepsTraps, alwaysUnfit}
 use Rattle.rules.specs.Stubs.{passed, SaysAfter, RealAfter}
 
 unfoldable pub steps-compute : ℕ
-unfolding run after shown shownWith answerBytes
+unfolding shownBy after shown shownWith answerBytes
     setupBy setupOf setupTarget beginning stepOf requestOf trapOf scheduleOf stateOf restartOf checked sized
     requestBy refusedBy drops serve mget gotFrom data9Of onBlock mput putTo windowWritten withPlains
     onProcess proc status rnote stop start
@@ -79,6 +78,6 @@ unfolding steps-compute SaysAfter RealAfter Says passed opened fed isAccepted bo
     bookWrite bookStart bookAnswer inWindow intoWindow sets joins removing others withPlain withPending withBreakpoints
     withStopped
     realBy sitesBy trapBy trapNumber answerAmong answerOf fetchBy readBy
-    stubs.kindOf changing rerrAlways zerosAlways leaving storesNothing plantsFirstOnly plantsNothing
+    kindNumber changing rerrAlways zerosAlways requestLeaving storesNothing plantsFirstOnly plantsNothing
     readsReal findsNoSite neverStops acceptsStates answersStates zeroRestart keepsTraps alwaysUnfit
 claim-computes = 0

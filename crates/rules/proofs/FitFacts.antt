@@ -18,11 +18,11 @@ use Rattle.target_fit.specs.Fit.{slotFit, entriesFit}
 use Rattle.target_fit.specs.Fit.{marksFit, currentFit, draftFit}
 use Rattle.memory.specs.Head.{Head, trapBytes}
 use Rattle.memory.specs.Place.{isSite}
-use Rattle.memory.specs.Overlay.{noSite, siteOver, slotOf, covered}
+use Rattle.memory.specs.Overlay.{freeSite, siteOver, slotOf, covered}
 use Rattle.common.proofs.Cases.{on-test, on-same}
 use Rattle.memory.proofs.Site.{site-place, no-site-free}
 use Rattle.memory.proofs.Slots.{slot-below, slot-site}
-use Rattle.memory_laws.specs.Planted.{Planted, planted-by}
+use Rattle.memory_laws.proofs.Planted.{Planted, planted-by}
 use Rattle.target.specs.Free.{isFree}
 use Rattle.target.specs.declared.Entry.{Entry}
 use Rattle.target.specs.declared.Process.{Process}
@@ -273,7 +273,7 @@ module _ {head : Head} (t : Target) (mem : List ℕ) (g : Good head t mem) where
   slot-used k u = slots.slot-used (t .base) (t .table .entries) k (omega (arith, u .0, g .shaped .entries)) (u .1)
 
   -- a free one has none
-  pub slot-free : (k : ℕ) → k < 8 → isFree (entryAt (t .table .entries) k) ≡ true → getD (sites t) k 0 ≡ noSite
+  pub slot-free : (k : ℕ) → k < 8 → isFree (entryAt (t .table .entries) k) ≡ true → getD (sites t) k 0 ≡ freeSite
   slot-free k h u = slots.slot-free (t .base) (t .table .entries) k (omega (arith, g .shaped .entries)) u
 
   -- a used slot's site is even

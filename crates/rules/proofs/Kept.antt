@@ -10,7 +10,7 @@ use Rattle.target_fit.specs.Fit.{currentFit}
 use Rattle.memory.specs.Head.{Head, trapBytes}
 use Rattle.memory.specs.Overlay.{covered}
 use Rattle.memory.proofs.Bytes.{length-plain}
-use Rattle.memory_laws.specs.Laws.{planted-set}
+use Rattle.memory_laws.proofs.Laws.{planted-set}
 use Rattle.request_parse.specs.declared.Parsed.{Parsed}
 use Rattle.target.specs.declared.Target.{Target}
 use Rattle.wire.specs.declared.Message.{Message}

@@ -14,7 +14,7 @@ use Rattle.common.proofs.First.{first-within, first-set, first-le}
 use Rattle.condition.specs.Depth.{depthAfter, depthFrom, depthOf, wellBegun}
 use Rattle.condition.specs.Add.{roomFor, withElement}
 use Rattle.condition.specs.declared.Room.the-variants.{Fits, Full, Short}
-use Rattle.target_fit.specs.Arrays.{noId, idOf, idsOf}
+use Rattle.target_fit.specs.Arrays.{freeId, idOf, idsOf}
 use Rattle.target_fit.specs.Fit.{entryAt, entryOf, draftTest, draftFit}
 use Rattle.common.proofs.Cases.{on-test}
 use Rattle.common.proofs.Same.{parts}
@@ -150,7 +150,7 @@ module _ (es : List Entry) (size : length es ≡ 8) where
             active = o .active;
             begun = o .begun;
             unused = rw (ids-set es k freshEntry)
-                (first-set (eqb (d .id)) (idsOf es) 0 k noId (ne-eqb (d .id) noId (omega (arith, p .id))
+                (first-set (eqb (d .id)) (idsOf es) 0 k freeId (ne-eqb (d .id) freeId (omega (arith, p .id))
                 ∙ sym (other (o .unused))) ∙ o .unused);
             room = omega (arith, free-first (set es k freshEntry) k (omega (arith, length-set es k freshEntry)) here);
           }));

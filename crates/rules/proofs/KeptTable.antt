@@ -10,13 +10,13 @@ use Rattle.common.proofs.Same.{true-or-false}
 use Rattle.target_fit.specs.Arrays.{siteOf, sitesOf}
 use Rattle.target_fit.specs.Fit.{entryAt}
 use Rattle.memory.specs.Head.{Head, trapBytes}
-use Rattle.memory.specs.Overlay.{noSite, laidOver}
+use Rattle.memory.specs.Overlay.{freeSite, laidOver}
 use Rattle.memory.specs.Write.{memAfter, plainAfter}
 use Rattle.memory.proofs.Site.{no-site-free}
 use Rattle.memory.proofs.Slots.{free-slots}
 use Rattle.memory.proofs.Bytes.{length-laid, length-mem-after, length-plain-after}
-use Rattle.memory_laws.specs.Laws.{planted-written, no-traps-planted}
-use Rattle.memory_laws.specs.Planting.{planted-more, removed-planted}
+use Rattle.memory_laws.proofs.Laws.{planted-written, no-traps-planted}
+use Rattle.memory_laws.proofs.Planting.{planted-more, removed-planted}
 use Rattle.target.specs.Free.{isFree}
 use Rattle.target.specs.Fresh.{noEntry, freshEntry, freshTable, closedDraft}
 use Rattle.target.specs.declared.Draft.{Draft}
@@ -45,7 +45,7 @@ fresh-parts {head} base n mem size = record {
   entry = λ k h. rw (getD-replicate 8 k freshEntry noEntry h) fresh-shaped;
   draft = closed-draft (freshTable .entries);
   rows = rows-fresh base n;
-  planted = no-traps-planted (trapBytes head) (replicate 8 noSite) mem (free-slots 2 (omega arith) 8);
+  planted = no-traps-planted (trapBytes head) (replicate 8 freeSite) mem (free-slots 2 (omega arith) 8);
   sized = size;
 }
 
@@ -108,7 +108,7 @@ module _ {head : Head} (t : Target) (mem : List ℕ) (g : Good head t mem) where
     rows = rows-set es (old .eight) k freshEntry h (t .base) (t .size) (old .rows)
         (λ e. true-or-false (sym e)) (λ e. true-or-false (sym e)) (λ e. true-or-false (sym e));
     planted = rw (sites-set (t .base) es k freshEntry) (rw (slot-used t mem g k (h, u)) at
-        (removed-planted 2 (sites t) mem (entryAt es k .plain) k noSite (old .entry k h .plain)
+        (removed-planted 2 (sites t) mem (entryAt es k .plain) k freeSite (old .entry k h .plain)
         (omega (arith, eight-sites t mem g))
         (λ j l. slot-only t mem g j k (omega (arith, eight-sites t mem g)) (h, u)) (no-site-free 2 (omega arith))
         (trapBytes head) refl (old .planted)));

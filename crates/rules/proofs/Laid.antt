@@ -11,7 +11,7 @@ use Rattle.target_fit.proofs.Slots.{plain-byte}
 use Rattle.target_fit.specs.Arrays.{siteOf, sitesOf, plainsOf}
 use Rattle.target_fit.specs.Fit.{entryAt}
 use Rattle.memory.specs.Head.{Head, trapBytes}
-use Rattle.memory.specs.Overlay.{noSite, siteOver, slotOf, covered, plainAt, plainOf, laidOver}
+use Rattle.memory.specs.Overlay.{freeSite, siteOver, slotOf, covered, plainAt, plainOf, laidOver}
 use Rattle.memory.specs.Place.{placeOf}
 use Rattle.memory.specs.Write.{overwritten, memAfter, plainAfter}
 use Rattle.memory.specs.declared.Place.{Place}
@@ -23,8 +23,8 @@ use Rattle.common.proofs.Tab.{pair-at}
 use Rattle.memory.proofs.Site.{no-site-free}
 use Rattle.memory.proofs.Slots.{slot-below, slot-site, covered-by, free-slots}
 use Rattle.memory.proofs.Bytes.{length-plain-after, no-traps}
-use Rattle.memory_laws.specs.Laws.{laid-plain, laid-same, plain-written}
-use Rattle.memory_laws.specs.Planting.{planted-plain, removed-plain}
+use Rattle.memory_laws.proofs.Laws.{laid-plain, laid-same, plain-written}
+use Rattle.memory_laws.proofs.Planting.{planted-plain, removed-plain}
 use Rattle.target.specs.Free.{isFree}
 use Rattle.target.specs.Fresh.{noEntry, freshEntry}
 use Rattle.target.specs.declared.Entry.{Entry}
@@ -150,7 +150,7 @@ module _ {head : Head} (t : Target) (mem : List ℕ) (good : Good head t mem) wh
       let wide : length (e .plain) ≡ 2 = good .shaped .entry k (u .0) .plain in
       let slots : length (sites t) ≡ 8 = eight-sites t mem good in
       rw (sites-set (t .base) (t .table .entries) k freshEntry, ← (slot-used t mem good k u))
-      (removed-plain 2 (sites t) mem (e .plain) k noSite wide (omega (arith, u .0))
+      (removed-plain 2 (sites t) mem (e .plain) k freeSite wide (omega (arith, u .0))
       (λ j h q. slot-only t mem good j k (omega arith) u q) (no-site-free 2 (omega arith))
       (plains t) (plainsOf (set (t .table .entries) k freshEntry)) (omega arith)
       (λ r h. sym (slot-byte t mem good k r (u .0) h))
@@ -198,4 +198,4 @@ pub plain-fresh : (base : ℕ) (mem : List ℕ)
     → plainOf 2 (sitesOf base (replicate 8 freshEntry)) (plainsOf (replicate 8 freshEntry)) mem ≡ mem
 unfolding sitesOf siteOf isFree
 plain-fresh base mem =
-    no-traps 2 (replicate 8 noSite) _ mem (free-slots 2 (omega arith) 8)
+    no-traps 2 (replicate 8 freeSite) _ mem (free-slots 2 (omega arith) 8)

@@ -16,7 +16,7 @@ use Rattle.target_fit.specs.Arrays.{sitesOf, plainsOf}
 use Rattle.target.specs.declared.Table.{Table}
 use borrow.Author.Tests.{eq-eqb, ne-eqb, eqb-true}
 use Rattle.memory.specs.Write.{overwritten}
-use Rattle.memory_laws.specs.Laws.{plain-set}
+use Rattle.memory_laws.proofs.Laws.{plain-set}
 use Rattle.target.specs.Free.{isFree, firstFree}
 use Rattle.target.specs.Fresh.{closedDraft}
 use Rattle.target.specs.declared.Draft.{Draft}

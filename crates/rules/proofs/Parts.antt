@@ -11,7 +11,7 @@ use Rattle.target_fit.specs.Fit.{windowFit, processesFit, marksFit, currentFit,
 use Rattle.memory.specs.Head.{Head, trapBytes}
 use Rattle.memory.specs.Overlay.{siteOver}
 use Rattle.memory.proofs.Slots.{covered-by}
-use Rattle.memory_laws.specs.Planted.{Planted, planted-at}
+use Rattle.memory_laws.proofs.Planted.{Planted, planted-at}
 use Rattle.target.specs.declared.Draft.{Draft}
 use Rattle.target.specs.declared.Entry.{Entry}
 use Rattle.target.specs.declared.Process.{Process}

@@ -23,7 +23,7 @@ use Rattle.memory.specs.Write.{bytesAt, plainRead}
 use Rattle.memory.specs.declared.Place.the-variants.{Window}
 use Rattle.common.proofs.Cases.{on-test}
 use Rattle.memory.proofs.Bytes.{plain-at, plain-under}
-use Rattle.memory_laws.specs.Laws.{read-plain}
+use Rattle.memory_laws.proofs.Laws.{read-plain}
 use Rattle.memory.proofs.Site.{site-place, site-same}
 use Rattle.memory.proofs.Slots.{covered-by, slot-only as slot-of}
 use Rattle.request_parse.specs.Request.{parseOf}
@@ -34,7 +34,8 @@ use Rattle.target.specs.declared.Target.{Target}
 use Rattle.wire.specs.Message.{bytesOf, typeOf}
 use Rattle.wire.specs.declared.Message.{Message}
 use Rattle.wire.specs.declared.Message.the-variants.{Tmget, Tmput, Tproc, Tstatus, Trnote, Tstop, Tstart, Tcondbreak}
-use Rattle.wire.specs.declared.Message.the-variants.{Rerr, Rmget, Rmput, Rproc, Rstatus, Rrnote, Rstop, Rstart, Rcondbreak}
+use Rattle.wire.specs.declared.Message.the-variants.{Rerr, Rmget, Rmput, Rproc, Rstatus, Rrnote, Rstop, Rstart}
+use Rattle.wire.specs.declared.Message.the-variants.{Rcondbreak}
 use Rattle.rules.specs.Outcome.{World, world, Outcome, answered, refused, replied, error}
 use Rattle.rules.specs.Record.{pcOf}
 use Rattle.rules.specs.Breakpoint.{sites, plains, breakpointAt}

@@ -18,10 +18,11 @@ use Rattle.rules.specs.Claims.{ShutOut, AllShut, none, _&_}
 use Rattle.rules.specs.Stubs.{rerrAlways, zerosAlways, storesNothing, plantsFirstOnly, plantsNothing}
 use Rattle.rules.specs.Stubs.{readsReal, findsNoSite, neverStops, acceptsStates, answersStates, zeroRestart}
 use Rattle.rules.specs.Stubs.{keepsTraps, alwaysUnfit}
-use Rattle.rules.specs.Stubs.{zeroed, ask, trapAt, scheduled, restartNow, case1, twoBytes, case4, twice, case5}
+use Rattle.rules.specs.Stubs.{zeroed, asking, trapAt, scheduled, restartNow, case1, twoBytes, case4, twice, case5}
 use Rattle.rules.specs.Stubs.{readBack, case10}
-use Rattle.rules.specs.Stubs.{Stage, begun, passed, SaysAfter, RealAfter, Row, part, memory, actsOf, SaysRow}
-use Rattle.rules.specs.Stubs.{rows}
+use Rattle.rules.specs.Stubs.{Stage, firstStage, passed, SaysAfter, RealAfter, StubRow, part, memory, actsOf}
+use Rattle.rules.specs.Stubs.{SaysRow}
+use Rattle.rules.specs.Stubs.{stubRows}
 use Rattle.rules.specs.Worked.{workedSetup}
 use Rattle.rules.proofs.Computes.{claim-computes}
 use Rattle.rules.proofs.Worked.{setup-accepted}
@@ -50,14 +51,14 @@ module _ (f : Stub) where
   says-after : Demand3 house f → (p : Part) (es : List Step) (e : Step) → SaysAfter p f es e
   unfolding Claim SaysAfter
   says-after d p es e =
-      said (along (begun f) es (step e ∷ []) (d workedSetup setup-accepted (map step es ++ (step e ∷ []))) .0) p
+      said (along (firstStage f) es (step e ∷ []) (d workedSetup setup-accepted (map step es ++ (step e ∷ []))) .0) p
 
   real-after : Demand3 house f → (es : List Step) → RealAfter f es
   unfolding Claim RealAfter
-  real-after d es = along (begun f) es [] (d workedSetup setup-accepted (map step es ++ []))
+  real-after d es = along (firstStage f) es [] (d workedSetup setup-accepted (map step es ++ []))
 
 -- so it is false of a stub of which a row's part is
-by-row : (x : Row) → (SaysRow x → ⊥) → ShutOut x
+by-row : (x : StubRow) → (SaysRow x → ⊥) → ShutOut x
 unfolding SaysRow actsOf
 by-row (part p f es e) n = record { row = n; claim = λ d. n (says-after (stubOf f) d p es e) }
 by-row (memory f es) n = record { row = n; claim = λ d. n (real-after (stubOf f) d es) }
@@ -121,7 +122,7 @@ finds-no-site : SaysAfter trappedPart (stubOf findsNoSite) case4 trapAt → ⊥
 unfolding claim-computes
 finds-no-site c = apart (ap one (c zeroed trapBlock 5 refl)) refl
 
-never-stops : SaysAfter answerPart (stubOf neverStops) (ask 0x0c_00000005_0000000000 ∷ []) scheduled → ⊥
+never-stops : SaysAfter answerPart (stubOf neverStops) (asking 0x0c_00000005_0000000000 ∷ []) scheduled → ⊥
 unfolding claim-computes
 never-stops c = apart (ap answerBytes c) refl
 
@@ -145,8 +146,8 @@ always-unfit : SaysAfter fitPart (stubOf alwaysUnfit) [] case1 → ⊥
 unfolding claim-computes
 always-unfit c = c refl
 
-pub stubs : (r : Reason) → AllShut (rows r)
-unfolding rows SaysRow
+pub stubs : (r : Reason) → AllShut (stubRows r)
+unfolding stubRows SaysRow
 stubs r =
     by-row _ (rerr-always r) &
     by-row _ zeros-always &

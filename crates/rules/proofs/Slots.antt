@@ -10,9 +10,9 @@ use lib.Seq.{drop-drop, take-at, drop-at}
 use Rattle.common.specs.First.{firstOf}
 use Rattle.common.proofs.Lists.{map-set}
 use Rattle.common.proofs.Tab.{map-at}
-use Rattle.memory.specs.Overlay.{noSite}
+use Rattle.memory.specs.Overlay.{freeSite}
 use Rattle.target_fit.proofs.Slots.{TwoEach}
-use Rattle.target_fit.specs.Arrays.{noId, idOf, siteOf, idsOf, sitesOf, plainsOf}
+use Rattle.target_fit.specs.Arrays.{freeId, idOf, siteOf, idsOf, sitesOf, plainsOf}
 use Rattle.target_fit.specs.Fit.{entryAt}
 use Rattle.target.specs.Free.{isFree, firstFree}
 use Rattle.target.specs.Fresh.{noEntry}
@@ -26,7 +26,7 @@ module _ (base : ℕ) (e : Entry) where
   unfolding siteOf
   site-used u = rw u
 
-  pub site-free : isFree e ≡ true → siteOf base e ≡ noSite
+  pub site-free : isFree e ≡ true → siteOf base e ≡ freeSite
   unfolding siteOf
   site-free u = rw u
 
@@ -34,7 +34,7 @@ pub id-used : (e : Entry) → isFree e ≡ false → idOf e ≡ e .id
 unfolding idOf
 id-used e u = rw u
 
-pub id-free : (e : Entry) → isFree e ≡ true → idOf e ≡ noId
+pub id-free : (e : Entry) → isFree e ≡ true → idOf e ≡ freeId
 unfolding idOf
 id-free e u = rw u
 
@@ -54,7 +54,7 @@ module _ (base : ℕ) (es : List Entry) where
     pub slot-used : isFree (entryAt es k) ≡ false → getD (sitesOf base es) k 0 ≡ entryAt es k .site - base
     slot-used u = site-at k h ∙ site-used base _ u
 
-    pub slot-free : isFree (entryAt es k) ≡ true → getD (sitesOf base es) k 0 ≡ noSite
+    pub slot-free : isFree (entryAt es k) ≡ true → getD (sitesOf base es) k 0 ≡ freeSite
     slot-free u = site-at k h ∙ site-free base _ u
 
   pub sites-set : (k : ℕ) (e : Entry) → sitesOf base (set es k e) ≡ set (sitesOf base es) k (siteOf base e)

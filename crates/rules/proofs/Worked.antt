@@ -4,13 +4,13 @@ use mathlib.Core.List.{map}
 use Rattle.common.specs.Numbers.{accepted}
 use Rattle.memory.specs.Head.{house}
 use Rattle.rules.specs.Step.{setupBy, stepOf}
-use Rattle.rules.specs.Worked.{workedSetup, after, rows}
+use Rattle.rules.specs.Worked.{workedSetup, after, workedRows}
 use Rattle.rules.proofs.Computes.{steps-compute}
 
 pub setup-accepted : setupBy workedSetup .number ≡ accepted
 unfolding steps-compute
 setup-accepted = refl
 
-pub worked : map (λ r. after (stepOf house) (r .calls)) rows ≡ map (λ r. r .shows) rows
-unfolding rows steps-compute
+pub worked : map (λ r. after (stepOf house) (r .calls)) workedRows ≡ map (λ r. r .shows) workedRows
+unfolding workedRows steps-compute
 worked = refl

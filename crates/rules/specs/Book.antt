@@ -27,6 +27,7 @@ use Rattle.memory.specs.declared.Place.the-variants.{Registers, Window, Nowhere
 use Rattle.request_parse.specs.Request.{parseOf}
 use Rattle.request_parse.specs.declared.Parsed.{Parsed}
 use Rattle.request_parse.specs.declared.Parsed.the-variants.{Request, Refused, NotTen}
+use Rattle.target.specs.Limits.{blockSize}
 use Rattle.target.specs.declared.Element.{Element}
 use Rattle.wire.specs.Message.{bytes4, bytesOf}
 use Rattle.wire.specs.declared.Data4.{Data4}
@@ -215,7 +216,7 @@ trapBy h s b pid block = answerAmong h s b pid (pcOf block) (b .breakpoints)
 -- accepted
 unfoldable pub trapNumber : Setup → Book → List ℕ → ℕ → List ℕ → ℕ
 trapNumber s b regs pid block =
-    cond (eqb (length regs) (136 * s .count) && eqb (length block) 136)
+    cond (eqb (length regs) (blockSize * s .count) && eqb (length block) blockSize)
     (cond (among (take (s .count) (s .pids)) pid)
     (cond (among (b .stopped) pid) stoppedProcess
     (cond (among (map (λ x. x .site) (b .breakpoints)) (pcOf block)) accepted noSite)) unlistedPid) wrongSize

@@ -18,7 +18,8 @@ use Rattle.wire.specs.declared.Message.the-variants.{Tmget}
 use Rattle.rules.specs.declared.Answer.{Answer}
 use Rattle.rules.specs.Outcome.{Outcome}
 use Rattle.rules.specs.Step.{Setup, setupBy, isAccepted, Step, request, trapEvent, restartStep, stepOf}
-use Rattle.rules.specs.Book.{Book, opened, withPlain, fed, inWindow, readBy, realBy, underTrap, trapBy, trapNumber}
+use Rattle.rules.specs.Book.{Book, opened, withPlain, fed, inWindow, readBy, realBy, underTrap, trapBy}
+use Rattle.rules.specs.Book.{trapNumber}
 
 -- ---- a stub: the record that it makes of a setup, and what it does with a record, the memory that stands and a step
 

@@ -23,8 +23,8 @@ use Rattle.rules.specs.Request.{drops}
 use Rattle.rules.specs.Step.{Setup, setupBy, sized, requestOf, Step, regsOf, bufferOf, isRefused, stepOf}
 use Rattle.rules.specs.Step.{request, trapEvent, scheduleEvent, stateEvent, restartStep}
 use Rattle.rules.specs.Claim.{stubOf, rulesStub, Demand3}
-use Rattle.rules.specs.Worked.{workedSetup, after, rows as workedRows}
-use Rattle.rules.specs.Stubs.{Row, actsOf, SaysRow, rows as stubRows}
+use Rattle.rules.specs.Worked.{workedSetup, after, workedRows}
+use Rattle.rules.specs.Stubs.{StubRow, actsOf, SaysRow, stubRows}
 
 -- ---- demand 1: "A refused step other than a setup changes no byte of memory, no saved register, no breakpoint"
 
@@ -99,14 +99,14 @@ requestNumber h w bytes reply =
 -- ---- the stubs of the table
 
 -- what the row says of its stub is false there, and so demand 3 is
-pub record ShutOut (x : Row) : Type 0 where
+pub record ShutOut (x : StubRow) : Type 0 where
   pub row : SaysRow x → ⊥
   pub claim : Demand3 house (stubOf (actsOf x)) → ⊥
 
 infixr 5 _&_
-pub data AllShut : List Row → Type 0 where
+pub data AllShut : List StubRow → Type 0 where
   none : AllShut []
-  _&_ : {x : Row} {xs : List Row} → ShutOut x → AllShut xs → AllShut (x ∷ xs)
+  _&_ : {x : StubRow} {xs : List StubRow} → ShutOut x → AllShut xs → AllShut (x ∷ xs)
 
 -- ---- the statements
 

@@ -14,6 +14,7 @@ use Rattle.common.specs.Numbers.{accepted, notFit, noSite}
 use Rattle.memory.specs.Head.{house, trapBytes}
 use Rattle.memory.specs.Overlay.{laidOver}
 use Rattle.target.specs.Free.{isFree}
+use Rattle.target.specs.Limits.{blockSize, pcOffset}
 use Rattle.target.specs.declared.Target.{Target}
 use Rattle.wire_text.specs.declared.Reason.{Reason}
 use Rattle.rules.specs.declared.Answer.the-variants.{Nothing, Pass, Yes, No}
@@ -34,16 +35,16 @@ abbrev pub Acts : Type 0
 Acts = Target → List ℕ → Step → Outcome
 
 -- the kind of a step, as the program reads it
-unfoldable pub kindOf : Step → ℕ
-kindOf (request regs bytes reply) = 1
-kindOf (trapEvent regs pid block) = 2
-kindOf (scheduleEvent regs pid block) = 3
-kindOf (stateEvent regs pid value) = 4
-kindOf (restartStep regs reply) = 5
+unfoldable pub kindNumber : Step → ℕ
+kindNumber (request regs bytes reply) = 1
+kindNumber (trapEvent regs pid block) = 2
+kindNumber (scheduleEvent regs pid block) = 3
+kindNumber (stateEvent regs pid value) = 4
+kindNumber (restartStep regs reply) = 5
 
 -- the rules, but that a step of one kind has another outcome, made of theirs
 unfoldable pub changing : ℕ → (Target → List ℕ → Step → Outcome → Outcome) → Acts
-changing k other t mem e = let o = stepOf house t mem e in cond (eqb (kindOf e) k) (other t mem e o) o
+changing k other t mem e = let o = stepOf house t mem e in cond (eqb (kindNumber e) k) (other t mem e o) o
 
 -- ---- 01's idle stubs
 
@@ -60,25 +61,25 @@ zerosAlways t mem (stateEvent regs pid value) = answered Nothing (world t mem re
 zerosAlways t mem (restartStep regs reply) = outcome accepted Nothing (world t mem regs) (replicate 10 0)
 
 -- the rules, but that a request whose bytes and reply meet a test leaves another world than theirs
-unfoldable pub leaving : (List ℕ → List ℕ → Bool) → (World → World) → Acts
-leaving meets other t mem (request regs bytes reply) =
+unfoldable pub requestLeaving : (List ℕ → List ℕ → Bool) → (World → World) → Acts
+requestLeaving meets other t mem (request regs bytes reply) =
     let o = stepOf house t mem (request regs bytes reply) in
     cond (eqb (o .number) accepted && meets bytes (o .reply))
     (outcome accepted Nothing (other (world t mem regs)) (o .reply)) o
-leaving meets other t mem (trapEvent regs pid block) = stepOf house t mem (trapEvent regs pid block)
-leaving meets other t mem (scheduleEvent regs pid block) = stepOf house t mem (scheduleEvent regs pid block)
-leaving meets other t mem (stateEvent regs pid value) = stepOf house t mem (stateEvent regs pid value)
-leaving meets other t mem (restartStep regs reply) = stepOf house t mem (restartStep regs reply)
+requestLeaving meets other t mem (trapEvent regs pid block) = stepOf house t mem (trapEvent regs pid block)
+requestLeaving meets other t mem (scheduleEvent regs pid block) = stepOf house t mem (scheduleEvent regs pid block)
+requestLeaving meets other t mem (stateEvent regs pid value) = stepOf house t mem (stateEvent regs pid value)
+requestLeaving meets other t mem (restartStep regs reply) = stepOf house t mem (restartStep regs reply)
 
 -- "one that accepts Tmput and stores nothing"
 unfoldable pub storesNothing : Acts
-storesNothing = leaving (λ bytes reply. eqb (getD reply 0 0) 0x05) (λ w. w)
+storesNothing = requestLeaving (λ bytes reply. eqb (getD reply 0 0) 0x05) (λ w. w)
 
 -- "one that plants its first breakpoint truly and only answers 11 for later ones": where there is a breakpoint
 -- already, b only ends the condition in hand
 unfoldable pub plantsFirstOnly : Acts
 plantsFirstOnly t =
-    leaving
+    requestLeaving
     (λ bytes reply.
     eqb (getD reply 0 0) 0x11 && eqb (getD bytes 5 0) (code "b")
     && ltb (firstOf (λ e. not (isFree e)) (t .table .entries)) (length (t .table .entries)))
@@ -137,8 +138,8 @@ pub record Stage (f : Stub) : Type 0 where
   pub own : f .Own
   pub mem : List ℕ
 
-abbrev pub begun : (f : Stub) → Stage f
-begun f = record {
+abbrev pub firstStage : (f : Stub) → Stage f
+firstStage f = record {
   book = opened workedSetup;
   target = setupBy workedSetup .after .target;
   own = f .begin workedSetup;
@@ -162,27 +163,27 @@ passed f g (e ∷ es) =
 -- a part of it of the step after them
 unfoldable pub SaysAfter : Part → (f : Stub) → List Step → Step → Type 0
 SaysAfter p f es e =
-    let g = passed f (begun f) es in
+    let g = passed f (firstStage f) es in
     Says p house workedSetup (g .book) e (stepOf house (g .target) (realBy house workedSetup (g .book)) e)
     (f .act (g .own) (g .mem) e .1)
 
 -- its end: real memory is the book's
 unfoldable pub RealAfter : (f : Stub) → List Step → Type 0
-RealAfter f es = let g = passed f (begun f) es in g .mem ≡ realBy house workedSetup (g .book)
+RealAfter f es = let g = passed f (firstStage f) es in g .mem ≡ realBy house workedSetup (g .book)
 
 -- ---- the table
 
-pub data Row : Type 0 where
+pub data StubRow : Type 0 where
   -- a part of the claim is false of the last step
-  part : Part → Acts → List Step → Step → Row
+  part : Part → Acts → List Step → Step → StubRow
   -- after the steps real memory is not the book's
-  memory : Acts → List Step → Row
+  memory : Acts → List Step → StubRow
 
-unfoldable pub actsOf : Row → Acts
+unfoldable pub actsOf : StubRow → Acts
 actsOf (part p f es e) = f
 actsOf (memory f es) = f
 
-unfoldable pub SaysRow : Row → Type 0
+unfoldable pub SaysRow : StubRow → Type 0
 SaysRow (part p f es e) = SaysAfter p (stubOf f) es e
 SaysRow (memory f es) = RealAfter (stubOf f) es
 
@@ -190,49 +191,49 @@ SaysRow (memory f es) = RealAfter (stubOf f) es
 abbrev pub zeroed : List ℕ
 zeroed = replicate 272 0
 
-abbrev pub ask : ℕ → Step
-ask b = request zeroed (highFirst 10 b) (replicate 10 0)
+abbrev pub asking : ℕ → Step
+asking b = request zeroed (highFirst 10 b) (replicate 10 0)
 
 -- a trap of process 5 at 4,104; a schedule event; a restart
 abbrev pub trapAt : Step
-trapAt = trapEvent zeroed 5 (replicate 132 0 ++ highFirst 4 4_104)
+trapAt = trapEvent zeroed 5 (replicate pcOffset 0 ++ highFirst 4 4_104)
 
 abbrev pub scheduled : Step
-scheduled = scheduleEvent zeroed 5 (replicate 136 0)
+scheduled = scheduleEvent zeroed 5 (replicate blockSize 0)
 
 abbrev pub restartNow : Step
 restartNow = restartStep zeroed (replicate 10 0)
 
 -- case 1; and the two bytes at 4,104
 abbrev pub case1 : Step
-case1 = ask 0x02_00001004_04_00000000
+case1 = asking 0x02_00001004_04_00000000
 
 abbrev pub twoBytes : Step
-twoBytes = ask 0x02_00001008_02_00000000
+twoBytes = asking 0x02_00001008_02_00000000
 
 -- case 4: n 3, b 4,104; and then n 4, b 4,112
 abbrev pub case4 : List Step
-case4 = ask 0x10_00000003_6e000000_00 ∷ ask 0x10_00001008_62000000_00 ∷ []
+case4 = asking 0x10_00000003_6e000000_00 ∷ asking 0x10_00001008_62000000_00 ∷ []
 
 abbrev pub twice : List Step
-twice = case4 ++ (ask 0x10_00000004_6e000000_00 ∷ ask 0x10_00001010_62000000_00 ∷ [])
+twice = case4 ++ (asking 0x10_00000004_6e000000_00 ∷ asking 0x10_00001010_62000000_00 ∷ [])
 
 -- case 5: then the Tmput across the trap; and the read after it
 abbrev pub case5 : List Step
-case5 = case4 ++ (ask 0x04_00001009_03_aabbcc00 ∷ [])
+case5 = case4 ++ (asking 0x04_00001009_03_aabbcc00 ∷ [])
 
 abbrev pub readBack : Step
-readBack = ask 0x02_00001008_04_00000000
+readBack = asking 0x02_00001008_04_00000000
 
 -- case 10: n 4, p 0x1008, *, p 0x0b0a0908, =, a, b 4,104
 abbrev pub case10 : List Step
 case10 =
-    ask 0x10_00000004_6e000000_00 ∷ ask 0x10_00001008_70000000_00 ∷ ask 0x10_00000000_2a000000_00 ∷
-    ask 0x10_0b0a0908_70000000_00 ∷ ask 0x10_00000000_3d000000_00 ∷ ask 0x10_00000000_61000000_00 ∷
-    ask 0x10_00001008_62000000_00 ∷ []
+    asking 0x10_00000004_6e000000_00 ∷ asking 0x10_00001008_70000000_00 ∷ asking 0x10_00000000_2a000000_00 ∷
+    asking 0x10_0b0a0908_70000000_00 ∷ asking 0x10_00000000_3d000000_00 ∷ asking 0x10_00000000_61000000_00 ∷
+    asking 0x10_00001008_62000000_00 ∷ []
 
-unfoldable pub rows : Reason → List Row
-rows r =
+unfoldable pub stubRows : Reason → List StubRow
+stubRows r =
     -- "one answering Rerr to all, shut out by demand 2 at case 1"
     part replyPart (rerrAlways r) [] case1 ∷
     -- "one answering zeros always, by case 1"
@@ -249,7 +250,7 @@ rows r =
     part readsPart (readsReal 1) case4 twoBytes ∷
     part trapPart (readsReal 2) case10 trapAt ∷
     part trappedPart findsNoSite case4 trapAt ∷
-    part answerPart neverStops (ask 0x0c_00000005_0000000000 ∷ []) scheduled ∷
+    part answerPart neverStops (asking 0x0c_00000005_0000000000 ∷ []) scheduled ∷
     part numberPart acceptsStates [] (stateEvent zeroed 5 8) ∷
     part answerPart answersStates [] (stateEvent zeroed 5 9) ∷
     part replyPart zeroRestart [] restartNow ∷

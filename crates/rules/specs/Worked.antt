@@ -5,6 +5,7 @@ use Prim.Native.Nat.{ℕ}
 use lib.ListN.{take, drop, replicate}
 use Rattle.common.specs.Bytes.{highFirst}
 use Rattle.common.specs.Tab.{tab}
+use Rattle.target.specs.Limits.{pcOffset}
 use Rattle.target.specs.declared.Target.{Target}
 use Rattle.rules.specs.Outcome.{World, Outcome, shown}
 use Rattle.rules.specs.Step.{Setup, setupBy, Step, request, trapEvent, stateEvent, restartStep}
@@ -17,12 +18,12 @@ pub data Call : Type 0 where
   look : (offset n : ℕ) → Call
 
 -- what each of the calls shows; each step is lent the memory and the register area that the one before left
-unfoldable pub run : (Target → List ℕ → Step → Outcome) → World → List Call → List (List ℕ)
-run f w [] = []
-run f w (step s ∷ cs) =
+unfoldable pub shownBy : (Target → List ℕ → Step → Outcome) → World → List Call → List (List ℕ)
+shownBy f w [] = []
+shownBy f w (step s ∷ cs) =
     let o = f (w .target) (w .mem) (s (w .regs)) in
-    shown o ∷ run f (o .after) cs
-run f w (look offset n ∷ cs) = take n (drop offset (w .mem)) ∷ run f w cs
+    shown o ∷ shownBy f (o .after) cs
+shownBy f w (look offset n ∷ cs) = take n (drop offset (w .mem)) ∷ shownBy f w cs
 
 -- ---- the worked setup: "B = 4,096, M = 64, byte at B + i is i", two processes, "a register area of zeros"
 
@@ -39,7 +40,7 @@ workedSetup = record {
 
 -- what calls show after the worked setup, where f is what steps do
 unfoldable pub after : (Target → List ℕ → Step → Outcome) → List Call → List (List ℕ)
-after f cs = run f (setupBy workedSetup .after) cs
+after f cs = shownBy f (setupBy workedSetup .after) cs
 
 -- ---- calls, and what they show
 
@@ -49,7 +50,7 @@ ask b = step (λ regs. request regs (highFirst 10 b) (replicate 10 0))
 
 -- a trap of a process, with zeros in its block but for the pc
 abbrev pub traps : ℕ → ℕ → Call
-traps pid pc = step (λ regs. trapEvent regs pid (replicate 132 0 ++ highFirst 4 pc))
+traps pid pc = step (λ regs. trapEvent regs pid (replicate pcOffset 0 ++ highFirst 4 pc))
 
 abbrev pub becomes : ℕ → ℕ → Call
 becomes pid value = step (λ regs. stateEvent regs pid value)
@@ -68,11 +69,11 @@ taken = reply 0x11_000000000000000000
 -- ---- the table
 
 -- calls after the worked setup, and what they show
-pub record Row : Type 0 where
+pub record WorkedRow : Type 0 where
   pub calls : List Call
   pub shows : List (List ℕ)
 
-abbrev pub row : List Call → List (List ℕ) → Row
+abbrev pub row : List Call → List (List ℕ) → WorkedRow
 row cs ls = record { calls = cs; shows = ls }
 
 -- case 4: n 3, b 4,104; the trap stands in memory, and a read answers the plain bytes
@@ -91,8 +92,8 @@ writingShows =
     plantingShows ++ (reply 0x05_000000000000000000 ∷
     (0x02 ∷ 0x90 ∷ 0xbb ∷ 0xcc ∷ []) ∷ reply 0x03_08aabbcc_0000000000 ∷ [])
 
-unfoldable pub rows : List Row
-rows =
+unfoldable pub workedRows : List WorkedRow
+workedRows =
     -- case 1
     row (ask 0x02_00001004_04_00000000 ∷ []) (reply 0x03_04050607_0000000000 ∷ []) ∷
     -- case 2

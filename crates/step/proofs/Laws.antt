@@ -1,4 +1,5 @@
--- Laws of the steps: the tests that every step begins with, what a request and a restart give back, and the step of each kind.
+-- Laws of the steps: the tests that every step begins with, what a request and a restart give back, and the step of
+-- each kind.
 -- Assumes nothing.
 use mathlib.Core.Path.{_≡_, refl, ap, _∙_}
 use mathlib.Core.Bool.{Bool, true, false, cond, not, _&&_, and-false}
@@ -56,7 +57,8 @@ module _ (kind : StepKind) (input reply : ℕ) (e : lentRight kind input reply �
 
 -- past the tests, the record is fit and its buffers have their sizes
 pub ready-by : (w : World) (b : Bool) → b ≡ sized w → not b ≡ false
-    → (s : Scan) → s ≡ scanOf (fitOf house (w .target) (w .mem)) (w .target .base) (w .target .table .entries) → not (s .fit) ≡ false
+    → (s : Scan) → s ≡ scanOf (fitOf house (w .target) (w .mem)) (w .target .base) (w .target .table .entries)
+    → not (s .fit) ≡ false
     → Ready house (w .target) s (w .mem) (w .regs)
 unfolding sized scanOf
 ready-by w b e h s f g =
@@ -79,7 +81,8 @@ leaving-checked : (w : World) (rest : Bool) (reply : List ℕ) (o : Outcome)
     → checked house w rest reply (leaving reply o) ≡ leaving reply (checked house w rest [] o)
 unfolding checked refused leaving
 leaving-checked w rest reply o =
-    on-test (sized w && rest) (λ e. rw e (on-test (fitOf house (w .target) (w .mem)) (λ f. rw f) (λ f. rw f))) (λ e. rw e)
+    on-test (sized w && rest) (λ e. rw e (on-test (fitOf house (w .target) (w .mem)) (λ f. rw f) (λ f. rw f)))
+    (λ e. rw e)
 
 module _ (kind : StepKind) (w : World) (pid value : ℕ) (input reply : List ℕ) where
   -- past the tests
@@ -91,7 +94,8 @@ module _ (kind : StepKind) (w : World) (pid value : ℕ) (input reply : List ℕ
   bodyOf step.Restart = restart w
 
   -- the tests come first, whatever the kind
-  tested-at : (k : StepKind) → checked house w (lentRight k (length input) (length reply)) reply (bodyOf k) ≡ stepBy k w pid value input reply
+  tested-at : (k : StepKind) → checked house w (lentRight k (length input) (length reply)) reply (bodyOf k)
+      ≡ stepBy k w pid value input reply
   unfolding lentRight stepBy requestOf trapOf scheduleOf stateOf restartOf
   tested-at step.Request = refl
   tested-at step.Trap = leaving-checked w _ reply _
@@ -99,7 +103,8 @@ module _ (kind : StepKind) (w : World) (pid value : ℕ) (input reply : List ℕ
   tested-at step.State = leaving-checked w _ reply _
   tested-at step.Restart = refl
 
-  tested : checked house w (lentRight kind (length input) (length reply)) reply (bodyOf kind) ≡ stepBy kind w pid value input reply
+  tested : checked house w (lentRight kind (length input) (length reply)) reply (bodyOf kind) ≡ stepBy kind w pid value
+      input reply
   tested = tested-at kind
 
   -- memory or the register area has another size
@@ -116,7 +121,8 @@ module _ (kind : StepKind) (w : World) (pid value : ℕ) (input reply : List ℕ
   module _ (lent : lentRight kind (length input) (length reply) ≡ true) where
     -- the record is not fit
     pub unfit : (b : Bool) → b ≡ sized w → not b ≡ false
-        → (s : Scan) → s ≡ scanOf (fitOf house (w .target) (w .mem)) (w .target .base) (w .target .table .entries) → not (s .fit) ≡ true
+        → (s : Scan) → s ≡ scanOf (fitOf house (w .target) (w .mem)) (w .target .base) (w .target .table .entries)
+        → not (s .fit) ≡ true
         → refused 3 w reply ≡ stepBy kind w pid value input reply
     unfolding checked
     unfit b e h s f g =
@@ -137,7 +143,8 @@ leaves t d mem regs reply o e = ap (leaving reply) e
 
 -- ---- a restart
 
-pub restart-as : (w : World) (s : Scan) → Ready house (w .target) s (w .mem) (w .regs) → (d : Effect) (mem reply : List ℕ)
+pub restart-as : (w : World) (s : Scan) → Ready house (w .target) s (w .mem) (w .regs)
+    → (d : Effect) (mem reply : List ℕ)
     → d ≡ effect 0 Nothing Restart → mem ≡ plainOf 2 (s .sites) (s .plain) (w .mem) → reply ≡ bytesOf (Rerr Reset)
     → effectOutcome (w .target) d mem (w .regs) reply ≡ restart w
 unfolding restart replied applied
@@ -152,6 +159,7 @@ pub accepts : (t : Target) (s : Served) (d : Effect) (reply mem regs : List ℕ)
 accepts t s d reply mem regs e = rw (e .0, e .1)
 
 -- by what its bytes ask
-pub asked : (w : World) (l reply : List ℕ) (p : Parsed) → p ≡ parseOf l → (o : Outcome) → o ≡ requestBy house p w l reply
+pub asked : (w : World) (l reply : List ℕ) (p : Parsed) → p ≡ parseOf l → (o : Outcome)
+    → o ≡ requestBy house p w l reply
     → o ≡ requestBy house (parseOf l) w l reply
 asked w l reply p e o q = q ∙ ap (λ (x : Parsed). requestBy house x w l reply) e

@@ -1,4 +1,5 @@
--- 01, "Steps and numbers": "a request; a trap, schedule or state event of the kernel; a restart", as one function of the kind.
+-- 01, "Steps and numbers": "a request; a trap, schedule or state event of the kernel; a restart", as one function of
+-- the kind.
 use Prim.Native.Nat.{ℕ}
 use mathlib.Core.Bool.{Bool, true, _&&_}
 use mathlib.Core.List.{List}

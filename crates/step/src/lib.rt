@@ -1,7 +1,6 @@
-// Every step but the setup, by its kind: the buffers' sizes, then whether the record is fit, then the step itself. A step says
-// what it changes in the record, which stays with its caller. One function for all steps, so that the record is tested in one
-// place.
-use target_fit::Scan;
+// Every step but the setup, by its kind: the buffers' sizes, then whether the record is fit, then the step itself. A
+// step says what it changes in the record, which stays with its caller. One function for all steps, so that the record
+// is tested in one place.
 use request_parse::Parsed;
 use rules::Answer;
 use step_effect::Change;
@@ -9,8 +8,9 @@ use step_effect::Effect;
 use step_effect::Served;
 use target::Process;
 use target::Target;
-use wire_text::Reason;
+use target_fit::Scan;
 use wire::Message;
+use wire_text::Reason;
 ghost use mathlib.Core.Path.{_≡_};
 ghost use mathlib.Core.Bool.{_&&_};
 ghost use Prim.Native.Nat.{_*_};
@@ -50,10 +50,8 @@ fn lent_right(kind: StepKind, input: usize, reply: usize) -> bool
 // An accepted request: its change of the record, and its ten bytes in the reply.
 fn accepted(done: Served, reply: &mut [u8]) -> Effect
     requires { ⌜ length (now reply) ≡ 10 ⌝ }
-    ensures {
-        λ r. ⌜ (r ≡ record { number = 0; answer = answer.Nothing; change = done .change; plain = done .plain })
-        × (now (reply .exit) ≡ done .bytes) ⌝
-    }
+    ensures { λ r. ⌜ (r ≡ record { number = 0; answer = answer.Nothing; change = done .change; plain = done .plain })
+        × (now (reply .exit) ≡ done .bytes) ⌝ }
 {
     let change = done.change;
     let plain = done.plain;
@@ -78,11 +76,9 @@ fn request(
 ) -> Effect
     requires { ⌜ Ready house t s (now mem) (now regs) ⌝ }
     requires { ⌜ (length (now bytes) ≡ 10) × (length (now reply) ≡ 10) ⌝ }
-    ensures {
-        λ r. ⌜ effectOutcome t r (now (mem .exit)) (now (regs .exit)) (now (reply .exit))
+    ensures { λ r. ⌜ effectOutcome t r (now (mem .exit)) (now (regs .exit)) (now (reply .exit))
         ≡ requestBy house (parseOf (now (bytes .entry))) (world t (now (mem .entry)) (now (regs .entry)))
-        (now (bytes .entry)) (now (reply .entry)) ⌝
-    }
+        (now (bytes .entry)) (now (reply .entry)) ⌝ }
 {
     let asked = request_parse::parse(bytes);
     match asked {
@@ -102,10 +98,8 @@ fn request(
 fn restart<'a>(t: Target, s: Scan, mem: &'a mut [u8], regs: &'a [u8], reply: &'a mut [u8]) -> Effect
     requires { ⌜ Ready house t s (now mem) (now regs) ⌝ }
     requires { ⌜ length (now reply) ≡ 10 ⌝ }
-    ensures {
-        λ r. ⌜ effectOutcome t r (now (mem .exit)) (now (regs .entry)) (now (reply .exit))
-        ≡ restartRule (world t (now (mem .entry)) (now (regs .entry))) ⌝
-    }
+    ensures { λ r. ⌜ effectOutcome t r (now (mem .exit)) (now (regs .entry)) (now (reply .exit))
+        ≡ restartRule (world t (now (mem .entry)) (now (regs .entry))) ⌝ }
 {
     let sites = s.sites;
     let plain = s.plain;
@@ -128,11 +122,9 @@ pub fn step(
     input: &[u8],
     reply: &mut [u8],
 ) -> Effect
-    ensures {
-        λ r. ⌜ effectOutcome t r (now (mem .exit)) (now (regs .exit)) (now (reply .exit))
+    ensures { λ r. ⌜ effectOutcome t r (now (mem .exit)) (now (regs .exit)) (now (reply .exit))
         ≡ stepBy kind (world t (now (mem .entry)) (now (regs .entry))) pid value (now (input .entry))
-        (now (reply .entry)) ⌝
-    }
+        (now (reply .entry)) ⌝ }
 {
     if !target_fit::sizes_right(t.size, t.count, mem.len(), regs.len()) {
         return Effect::keeping(common::WRONG_SIZE, Answer::Nothing);

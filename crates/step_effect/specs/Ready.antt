@@ -1,4 +1,5 @@
--- A fit record with its buffers and its table as arrays: what the inner functions of a step start from, and what they give.
+-- A fit record with its buffers and its table as arrays: what the inner functions of a step start from, and what they
+-- give.
 use mathlib.Core.Path.{_≡_}
 use mathlib.Core.Bool.{true}
 use mathlib.Core.List.{List}

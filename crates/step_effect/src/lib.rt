@@ -39,8 +39,8 @@ pub enum Change {
     Restart,
 }
 
-// The number and the answer of a step, with what it changes in the record and, for a change of the entries' plain bytes,
-// those bytes.
+// The number and the answer of a step, with what it changes in the record and, for a change of the entries' plain
+// bytes, those bytes.
 pub struct Effect {
     pub number: u8,
     pub answer: Answer,
@@ -71,7 +71,8 @@ impl Served {
 impl Effect {
     // A step that leaves the record as it was.
     pub fn keeping(number: u8, answer: Answer) -> Effect
-        ensures { λ r. ⌜ r ≡ record { number = number; answer = answer; change = change.Same; plain = replicate 16 0 } ⌝ }
+        ensures { λ r. ⌜ r
+            ≡ record { number = number; answer = answer; change = change.Same; plain = replicate 16 0 } ⌝ }
     {
         let none = [0; Table::PLAIN];
         Effect {

@@ -27,7 +27,8 @@ module _ (pids addresses : List ℕ) where
   unfolding beginning
   begin-more i h =
       tab-set 4 _ _ i _ (rw (lt-ltb i (i + 1) (omega arith)))
-      (λ j l s. on-less j i (λ b. rw (lt-ltb j i b, lt-ltb j (i + 1) (omega arith))) (λ b. rw (le-ltb j i b, le-ltb j (i + 1) (omega arith))))
+      (λ j l s. on-less j i (λ b. rw (lt-ltb j i b, lt-ltb j (i + 1) (omega arith)))
+      (λ b. rw (le-ltb j i b, le-ltb j (i + 1) (omega arith))))
 
   pub begin-same : (i n : ℕ) → i ≡ n → tab 4 (beginning pids addresses i) ≡ tab 4 (beginning pids addresses n)
   begin-same i n e = ap (λ (k : ℕ). tab 4 (beginning pids addresses k)) e
@@ -58,6 +59,7 @@ module _ (base size : ℕ) (pids addresses : List ℕ) (count : ℕ) (mem regs :
       setup-sizes z = rw (h, rw e at g, z)
 
       pub setup-taken : (eqb (length mem) size && eqb (length regs) (136 * count)) ≡ true
-          → outcome 0 Nothing (world (setupTarget base size pids addresses count) mem regs) [] ≡ setupOf base size pids addresses count mem regs
+          → outcome 0 Nothing (world (setupTarget base size pids addresses count) mem regs) [] ≡ setupOf base size pids
+          addresses count mem regs
       unfolding setupOf setupTarget answered
       setup-taken z = rw (h, rw e at g, z)

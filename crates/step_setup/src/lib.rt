@@ -14,7 +14,11 @@ ghost use Rattle.target.specs.Fresh.{emptyTarget};
 ghost use Rattle.target.specs.Limits.{maxProcesses};
 
 // The first `count` processes begin Ready and unmarked.
-fn processes_of(pids: [u32; Target::PROCESSES], addresses: [u32; Target::PROCESSES], count: u32) -> [Process; Target::PROCESSES]
+fn processes_of(
+    pids: [u32; Target::PROCESSES],
+    addresses: [u32; Target::PROCESSES],
+    count: u32,
+) -> [Process; Target::PROCESSES]
     ensures { λ r. ⌜ r ≡ tab maxProcesses (beginning pids addresses count) ⌝ }
 {
     let none = Process {
@@ -63,10 +67,8 @@ pub fn setup(
     mem: &[u8],
     regs: &[u8],
 ) -> Done
-    ensures {
-        λ r. ⌜ outcome (r .number) (r .answer) (world (r .target) (now (mem .entry)) (now (regs .entry))) []
-        ≡ setupOf base size pids addresses count (now (mem .entry)) (now (regs .entry)) ⌝
-    }
+    ensures { λ r. ⌜ outcome (r .number) (r .answer) (world (r .target) (now (mem .entry)) (now (regs .entry))) []
+        ≡ setupOf base size pids addresses count (now (mem .entry)) (now (regs .entry)) ⌝ }
 {
     let processes = processes_of(pids, addresses, count);
     if !target_fit::window_fit(base, size) {

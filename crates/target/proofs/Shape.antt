@@ -1,4 +1,5 @@
--- What owning a record tells: the lengths of its arrays and the ranges of its numbers, once for each type. Assumes nothing.
+-- What owning a record tells: the lengths of its arrays and the ranges of its numbers, once for each type. Assumes
+-- nothing.
 use mathlib.Core.Path.{_≡_, sym, _∙_, subst}
 use mathlib.Core.List.{List, [], _∷_, map}
 use Prim.Native.Nat.{ℕ, zero, suc, _<_, _^_}
@@ -111,5 +112,6 @@ target-shape t vs h = record {
   current = h .1 .1 .1 .1 .1 .1 .1 .0 .1;
 }
 
-pub target-table : (t : Target) (vs : List Val) → Is target.the-row t vs → (us : List Val) × Is table.the-row (t .table) us
+pub target-table : (t : Target) (vs : List Val) → Is target.the-row t vs
+    → (us : List Val) × Is table.the-row (t .table) us
 target-table t vs h = (_, h .1 .1 .1 .1 .1 .1 .1 .1 .0)

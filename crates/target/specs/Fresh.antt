@@ -22,7 +22,15 @@ abbrev pub noProcess : Process
 noProcess = record { pid = 0; address = 0; state = 0; wanted = 0 }
 
 abbrev pub freshEntry : Entry
-freshEntry = record { used = 0; id = 0; plain = replicate 2 0; site = 0; count = 0; elements = replicate maxElements noElement }
+freshEntry = record {
+  used = 0;
+  id = 0;
+  plain = replicate 2 0;
+  site = 0;
+  count = 0;
+  elements = replicate maxElements
+      noElement;
+}
 
 -- nothing in hand
 abbrev pub closedDraft : Draft

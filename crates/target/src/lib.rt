@@ -1,7 +1,9 @@
 // The record of the stub: the window, the processes, the breakpoints and the condition in hand.
 //
-// Every field is an unsigned integer, or an array or struct of them, so that any bytes of the record's size are a record.
-// A flag is a byte that a fit record has at 0 or 1. What a free entry holds, and the room past a count, is of no account.
+// Every field is an unsigned integer, or an array or struct of them, so that any bytes of the record's size are a
+// record.
+// A flag is a byte that a fit record has at 0 or 1. What a free entry holds, and the room past a count, is of no
+// account.
 ghost use mathlib.Core.Path.{_≡_};
 ghost use Rattle.target.specs.Fresh.{freshEntry, closedDraft, freshTable, emptyTarget};
 ghost use Rattle.target.specs.Free.{firstFree};
@@ -13,7 +15,8 @@ pub struct Element {
     pub value: u32,
 }
 
-// A breakpoint: its id, its site (an address), the two plain bytes of the site, and its condition's first `count` elements.
+// A breakpoint: its id, its site (an address), the two plain bytes of the site, and its condition's first `count`
+// elements.
 #[repr(C)]
 pub struct Entry {
     pub used: u8,
@@ -62,14 +65,17 @@ pub struct Target {
 impl Process {
     // The state bytes that the steps set or test.
     pub const READY: u8 = 2;
+
     pub const STOPPED: u8 = 8;
     // The bytes of a process's block in the register area, and where its pc is.
     pub const BLOCK: usize = 136;
+
     pub const PC: usize = 132;
 }
 
 impl Entry {
     pub const ELEMENTS: usize = 16;
+
     pub const LAST_ID: u32 = 255;
 
     pub fn free() -> Entry

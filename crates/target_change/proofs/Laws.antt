@@ -16,9 +16,11 @@ use Rattle.target_entries.specs.Entries.{entriesAfter}
 use Rattle.target_fit.specs.Fit.{stopped, processAt}
 use Rattle.step_effect.specs.Change.{applied}
 use Rattle.rules.specs.Event.{restarted}
-use Rattle.rules.specs.Record.{ready, isStopped, withTable, withEntries, withDraft, withCurrent, withProcesses, withState, setState}
+use Rattle.rules.specs.Record.{ready, isStopped, withTable, withEntries, withDraft, withCurrent, withProcesses}
+use Rattle.rules.specs.Record.{withState, setState}
 use Rattle.step_effect.specs.declared.Change.{Change}
-use Rattle.step_effect.specs.declared.Change.the-variants.{Same, Plain, Current, State, Begin, Add, Drop, Plant, Remove, Start, Restart}
+use Rattle.step_effect.specs.declared.Change.the-variants.{Same, Plain, Current, State, Begin, Add, Drop, Plant, Remove}
+use Rattle.step_effect.specs.declared.Change.the-variants.{Start, Restart}
 use Rattle.step_effect.proofs.Change.{the-type}
 use Rattle.target.specs.Fresh.{noProcess}
 use Rattle.target.specs.declared.Process.{Process}
@@ -27,7 +29,8 @@ use Rattle.target_change.specs.Parts.{holding, processesAfter, selectedA
 
 -- ---- parts that a change leaves as they were; a tag is the variant's place
 
-pub keeps-processes : (t : Target) (c : Change) (plain : List ℕ) → among (0 ∷ 1 ∷ 2 ∷ 4 ∷ 5 ∷ 6 ∷ 7 ∷ 8 ∷ []) (tagOf the-type c) ≡ true
+pub keeps-processes : (t : Target) (c : Change) (plain : List ℕ)
+    → among (0 ∷ 1 ∷ 2 ∷ 4 ∷ 5 ∷ 6 ∷ 7 ∷ 8 ∷ []) (tagOf the-type c) ≡ true
     → applied t c plain .processes ≡ t .processes
 unfolding among applied withTable withEntries withDraft withCurrent
 keeps-processes t Same plain e = refl
@@ -43,7 +46,8 @@ keeps-processes t (Start i k) plain e = true-or-false e
 keeps-processes t Restart plain e = true-or-false e
 
 -- whether a process is current, and which
-pub keeps-current : (t : Target) (c : Change) (plain : List ℕ) → among (0 ∷ 1 ∷ 3 ∷ 4 ∷ 5 ∷ 6 ∷ 7 ∷ 8 ∷ 9 ∷ []) (tagOf the-type c) ≡ true
+pub keeps-current : (t : Target) (c : Change) (plain : List ℕ)
+    → among (0 ∷ 1 ∷ 3 ∷ 4 ∷ 5 ∷ 6 ∷ 7 ∷ 8 ∷ 9 ∷ []) (tagOf the-type c) ≡ true
     → (applied t c plain .selected ≡ t .selected) × (applied t c plain .current ≡ t .current)
 unfolding among applied withTable withEntries withDraft withProcesses setState
 keeps-current t Same plain e = (refl, refl)
@@ -58,7 +62,8 @@ keeps-current t (Remove k) plain e = (refl, refl)
 keeps-current t (Start i k) plain e = (refl, refl)
 keeps-current t Restart plain e = true-or-false e
 
-pub keeps-draft : (t : Target) (c : Change) (plain : List ℕ) → among (0 ∷ 1 ∷ 2 ∷ 3 ∷ 8 ∷ 9 ∷ []) (tagOf the-type c) ≡ true
+pub keeps-draft : (t : Target) (c : Change) (plain : List ℕ) → among (0 ∷ 1 ∷ 2 ∷ 3 ∷ 8 ∷ 9 ∷ []) (tagOf the-type c)
+    ≡ true
     → applied t c plain .table .draft ≡ t .table .draft
 unfolding among applied withTable withEntries withCurrent withProcesses setState
 keeps-draft t Same plain e = refl
@@ -86,7 +91,8 @@ pub of-parts : (t : Target) (c : Change) (plain : List ℕ)
       table = record { entries = entriesAfter (t .table) c plain; draft = draftAfter (t .table .draft) c };
     }
     ≡ applied t c plain
-unfolding applied holding processesAfter selectedAfter currentAfter entriesAfter draftAfter withTable withEntries withDraft withCurrent withProcesses setState
+unfolding applied holding processesAfter selectedAfter currentAfter entriesAfter draftAfter withTable withEntries
+    withDraft withCurrent withProcesses setState
 of-parts t Same plain = refl
 of-parts t Plain plain = refl
 of-parts t (Current pid) plain = refl
@@ -138,7 +144,12 @@ module _ {A : Type 0} (f : A → A) where
 
   -- past the end there is nothing to do
   pub front-all : (l : List A) (i n : ℕ) → length l ≤ i → length l ≤ n → front l i ≡ front l n
-  front-all l i n h g = rw (take-all i l h, take-all n l g, drop-of-length-le l {i = i} h, drop-of-length-le l {i = n} g)
+  front-all l i n h g = rw (
+    take-all i l h,
+    take-all n l g,
+    drop-of-length-le l {i = i} h,
+    drop-of-length-le l {i = n} g,
+  )
 
 -- the process at place i as restarted, but for its mark
 abbrev pub Woken : List Process → ℕ → List Process → Type 0
@@ -146,7 +157,8 @@ Woken ps i qs = qs ≡ set ps i (withState (processAt ps i) (restarted (processA
 
 module _ (ps : List Process) (i : ℕ) (qs : List Process) where
   -- a Stopped process becomes Ready
-  pub made-ready : processAt ps i .state ≡ stopped → qs ≡ set ps i (withState (processAt ps i) ready (processAt ps i .wanted))
+  pub made-ready : processAt ps i .state ≡ stopped
+      → qs ≡ set ps i (withState (processAt ps i) ready (processAt ps i .wanted))
       → Woken ps i qs
   unfolding restarted isStopped withState
   made-ready s e = rw (eq-eqb (processAt ps i .state) stopped s) e

@@ -14,7 +14,16 @@ use Rattle.target.specs.declared.Target.{Target}
 -- the processes and the current one
 unfoldable pub holding : ℕ → List Process → ℕ → ℕ → Target
 holding count ps selected current =
-    record { base = 0; size = 0; count = count; processes = ps; selected = selected; current = current; table = freshTable }
+    record {
+      base = 0;
+      size = 0;
+      count = count;
+      processes = ps;
+      selected = selected;
+      current = current;
+      table =
+          freshTable;
+    }
 
 unfoldable pub processesAfter : ℕ → List Process → Change → List Process
 processesAfter count ps c = applied (holding count ps 0 0) c [] .processes

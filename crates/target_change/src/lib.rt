@@ -1,5 +1,5 @@
-// What a step changes in the record, made: part by part, so that a caller who has the record in its own memory writes just the parts
-// that change, and of a whole record. What becomes of the entries is in `entries`.
+// What a step changes in the record, made: part by part, so that a caller who has the record in its own memory writes
+// just the parts that change, and of a whole record. What becomes of the entries is in `entries`.
 use step_effect::Change;
 use target::Draft;
 use target::Element;
@@ -17,7 +17,12 @@ ghost use Rattle.step_effect.specs.declared.Change.the-variants as change;
 ghost use Rattle.target_change.specs.Parts.{processesAfter, selectedAfter, currentAfter, draftAfter};
 
 // The state and the mark of one process set.
-fn set_process(ps: [Process; Target::PROCESSES], i: usize, state: u8, wanted: u8) -> [Process; Target::PROCESSES]
+fn set_process(
+    ps: [Process; Target::PROCESSES],
+    i: usize,
+    state: u8,
+    wanted: u8,
+) -> [Process; Target::PROCESSES]
     ensures { λ r. ⌜ r ≡ set ps i (withState (processAt ps i) state wanted) ⌝ }
 {
     let mut qs = ps;
@@ -49,7 +54,11 @@ fn restart_processes(count: u32, ps: [Process; Target::PROCESSES]) -> [Process; 
 }
 
 // The processes, of which the first `count` are there.
-pub fn processes_after(count: u32, ps: [Process; Target::PROCESSES], c: Change) -> [Process; Target::PROCESSES]
+pub fn processes_after(
+    count: u32,
+    ps: [Process; Target::PROCESSES],
+    c: Change,
+) -> [Process; Target::PROCESSES]
     ensures { λ r. ⌜ r ≡ processesAfter count ps c ⌝ }
 {
     match c {

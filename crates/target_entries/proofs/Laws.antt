@@ -21,7 +21,8 @@ use Rattle.rules.specs.Record.{withTable, withEntries, withProcesses, setState}
 use Rattle.rules.specs.Request.{withPlains}
 use Rattle.rules.proofs.Slots.{withPlain, length-with, with-at}
 use Rattle.step_effect.specs.declared.Change.{Change}
-use Rattle.step_effect.specs.declared.Change.the-variants.{Same, Plain, Current, State, Begin, Add, Drop, Plant, Remove, Start, Restart}
+use Rattle.step_effect.specs.declared.Change.the-variants.{Same, Plain, Current, State, Begin, Add, Drop, Plant, Remove}
+use Rattle.step_effect.specs.declared.Change.the-variants.{Start, Restart}
 use Rattle.step_effect.proofs.Change.{the-type}
 use Rattle.target.specs.Fresh.{noEntry, freshEntry}
 use Rattle.target.specs.declared.Draft.{Draft}
@@ -64,7 +65,8 @@ no-index u (Remove k) e = true-or-false e
 no-index u (Start i k) e = true-or-false e
 no-index u Restart e = refl
 
-pub free-entry : (d : Draft) (c : Change) → among (0 ∷ 1 ∷ 2 ∷ 3 ∷ 4 ∷ 5 ∷ 6 ∷ 8 ∷ 9 ∷ 10 ∷ []) (tagOf the-type c) ≡ true
+pub free-entry : (d : Draft) (c : Change) → among (0 ∷ 1 ∷ 2 ∷ 3 ∷ 4 ∷ 5 ∷ 6 ∷ 8 ∷ 9 ∷ 10 ∷ []) (tagOf the-type c)
+    ≡ true
     → freshEntry ≡ entryAfter d c
 unfolding among entryAfter
 free-entry d Same e = refl
@@ -91,7 +93,8 @@ entry-plain n es vs k g h =
 stored : (p : List ℕ) (a b : ℕ) → length p ≡ 2 → set (set p 0 a) 1 b ≡ a ∷ b ∷ []
 stored p a b h = ap (λ (l : List ℕ). set (set l 0 a) 1 b) (two-of p 0 h)
 
-pair : (bytes : List ℕ) (m : ℕ) → m + 1 < length bytes → take 2 (drop m bytes) ≡ getD bytes m 0 ∷ getD bytes (m + 1) 0 ∷ []
+pair : (bytes : List ℕ) (m : ℕ) → m + 1 < length bytes → take 2 (drop m bytes) ≡ getD bytes m 0 ∷ getD bytes (m + 1) 0
+    ∷ []
 unfolding tab
 pair bytes m h = rw (tab-part bytes 0 m 2 (omega arith), add-zero)
 
@@ -100,21 +103,26 @@ abbrev pub Taken : List Entry → ℕ → ℕ → ℕ → List Entry → Type 0
 Taken us k a b vs = vs ≡ set us k (withPlain (getD us k noEntry) (a ∷ b ∷ []))
 
 module _ (us : List Entry) (k a b : ℕ) (vs : List Entry) (two : length (getD us k noEntry .plain) ≡ 2) where
-  pub put-in : vs ≡ set us k (withPlain (getD us k noEntry) (set (set (getD us k noEntry .plain) 0 a) 1 b)) → Taken us k a b vs
-  put-in e = e ∙ ap (λ (p : List ℕ). set us k (withPlain (getD us k noEntry) p)) (stored (getD us k noEntry .plain) a b two)
+  pub put-in : vs ≡ set us k (withPlain (getD us k noEntry) (set (set (getD us k noEntry .plain) 0 a) 1 b))
+      → Taken us k a b vs
+  put-in e = e ∙ ap (λ (p : List ℕ). set us k (withPlain (getD us k noEntry) p))
+      (stored (getD us k noEntry .plain) a b two)
 
   -- bytes that are there already are not stored
-  pub there-already : getD (getD us k noEntry .plain) 0 0 ≡ a → getD (getD us k noEntry .plain) 1 0 ≡ b → vs ≡ us → Taken us k a b vs
+  pub there-already : getD (getD us k noEntry .plain) 0 0 ≡ a → getD (getD us k noEntry .plain) 1 0 ≡ b → vs ≡ us
+      → Taken us k a b vs
   there-already p q e =
       e ∙ sym (set-getD us k noEntry)
-      ∙ ap (λ (l : List ℕ). set us k (withPlain (getD us k noEntry) l)) (two-of (getD us k noEntry .plain) 0 two ∙ rw (p, q))
+      ∙ ap (λ (l : List ℕ). set us k (withPlain (getD us k noEntry) l)) (two-of (getD us k noEntry .plain) 0 two
+      ∙ rw (p, q))
 
 -- a loop over the entries: those before k are taken, those from k on as they were
 module _ (es us : List Entry) (bytes : List ℕ) (k : ℕ) (z : length us ≡ length es) where
   module _ (h : k < length es) (r : drop k us ≡ drop k es) where
     pub still : getD us k noEntry ≡ getD es k noEntry
     still =
-        let e = sym (getD-drop k us 0 noEntry) ∙ ap (λ (l : List Entry). getD l 0 noEntry) r ∙ getD-drop k es 0 noEntry in
+        let e = sym (getD-drop k us 0 noEntry) ∙ ap (λ (l : List Entry). getD l 0 noEntry) r
+        ∙ getD-drop k es 0 noEntry in
         rw add-zero at e
 
     module _ (vs : List Entry) (w : Taken us k (getD bytes (2 * k) 0) (getD bytes (2 * k + 1) 0) vs) where
@@ -124,7 +132,8 @@ module _ (es us : List Entry) (bytes : List ℕ) (k : ℕ) (z : length us ≡ le
           let j : k < length (withPlains es bytes) = omega (arith, length-with es bytes) in
           rw (w, add-one k, take-suc-set us k _ (omega arith), new, t, ← take-suc (withPlains es bytes) k noEntry j)
         where
-          new : withPlain (getD us k noEntry) (getD bytes (2 * k) 0 ∷ getD bytes (2 * k + 1) 0 ∷ []) ≡ getD (withPlains es bytes) k noEntry
+          new : withPlain (getD us k noEntry) (getD bytes (2 * k) 0 ∷ getD bytes (2 * k + 1) 0 ∷ [])
+              ≡ getD (withPlains es bytes) k noEntry
           new =
               ap (λ (x : Entry). withPlain x (getD bytes (2 * k) 0 ∷ getD bytes (2 * k + 1) 0 ∷ [])) still
               ∙ ap (withPlain (getD es k noEntry)) (sym (pair bytes (2 * k) b))
@@ -135,4 +144,5 @@ module _ (es us : List Entry) (bytes : List ℕ) (k : ℕ) (z : length us ≡ le
           rw w (drop-set-lt (k + 1) us k _ (omega arith)) ∙ sym (drop-drop 1 k us) ∙ ap (drop 1) r ∙ drop-drop 1 k es
 
   pub plains-done : length es ≤ k → take k us ≡ take k (withPlains es bytes) → us ≡ withPlains es bytes
-  plains-done h t = sym (take-all k us (omega arith)) ∙ t ∙ take-all k (withPlains es bytes) (omega (arith, length-with es bytes))
+  plains-done h t = sym (take-all k us (omega arith)) ∙ t
+      ∙ take-all k (withPlains es bytes) (omega (arith, length-with es bytes))

@@ -5,9 +5,11 @@ use Rattle.rules.specs.Breakpoint.{entryWith}
 use Rattle.step_effect.specs.Change.{applied}
 use Rattle.rules.specs.Record.{withTable}
 use Rattle.step_effect.specs.declared.Change.{Change}
-use Rattle.step_effect.specs.declared.Change.the-variants.{Same, Plain, Current, State, Begin, Add, Drop, Plant, Remove, Start, Restart}
+use Rattle.step_effect.specs.declared.Change.the-variants.{Same, Plain, Current, State, Begin, Add, Drop, Plant, Remove}
+use Rattle.step_effect.specs.declared.Change.the-variants.{Start, Restart}
 use Rattle.target.specs.Free.{firstFree}
 use Rattle.target.specs.Fresh.{freshEntry, emptyTarget}
+use Rattle.target.specs.Limits.{maxEntries}
 use Rattle.target.specs.declared.Draft.{Draft}
 use Rattle.target.specs.declared.Entry.{Entry}
 use Rattle.target.specs.declared.Table.{Table}
@@ -20,17 +22,17 @@ entriesAfter u c plain = applied (withTable emptyTarget u) c plain .table .entri
 
 -- its index: a new breakpoint "takes the free entry of the lowest index"
 unfoldable pub indexAfter : Table → Change → ℕ
-indexAfter u Same = 8
-indexAfter u Plain = 8
-indexAfter u (Current pid) = 8
-indexAfter u (State i state wanted) = 8
-indexAfter u (Begin id) = 8
-indexAfter u (Add letter value) = 8
-indexAfter u Drop = 8
+indexAfter u Same = maxEntries
+indexAfter u Plain = maxEntries
+indexAfter u (Current pid) = maxEntries
+indexAfter u (State i state wanted) = maxEntries
+indexAfter u (Begin id) = maxEntries
+indexAfter u (Add letter value) = maxEntries
+indexAfter u Drop = maxEntries
 indexAfter u (Plant site b0 b1) = firstFree (u .entries)
 indexAfter u (Remove k) = k
 indexAfter u (Start i k) = k
-indexAfter u Restart = 8
+indexAfter u Restart = maxEntries
 
 -- what it becomes
 unfoldable pub entryAfter : Draft → Change → Entry

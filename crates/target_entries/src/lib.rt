@@ -51,8 +51,12 @@ pub fn with_entry(es: [Entry; Table::ENTRIES], k: usize, e: Entry) -> [Entry; Ta
     fs
 }
 
-// The entries with their plain bytes taken from the slots' bytes. Just those that differ are written: an entry is large.
-pub fn with_plains(es: [Entry; Table::ENTRIES], plain: [u8; Table::PLAIN]) -> [Entry; Table::ENTRIES]
+// The entries with their plain bytes taken from the slots' bytes. Just those that differ are written: an entry is
+// large.
+pub fn with_plains(
+    es: [Entry; Table::ENTRIES],
+    plain: [u8; Table::PLAIN],
+) -> [Entry; Table::ENTRIES]
     ensures { λ r. ⌜ r ≡ withPlains es plain ⌝ }
 {
     let mut fs = es;

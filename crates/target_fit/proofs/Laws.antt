@@ -88,14 +88,16 @@ onFound serve other Unlisted = other
 module _ (t : Target) (pid : ℕ) where
   -- it is what a rule does by whether the pid is listed
   pub on-found : {A : Type 0} (serve : ℕ → Process → A) (other : A) (l f : Lookup) → l ≡ findOf t pid → l ≡ f
-      → onFound serve other f ≡ (let k = processOf (t .processes) (t .count) pid in cond (ltb k (t .count)) (serve k (processAt (t .processes) k)) other)
+      → onFound serve other f ≡ (let k = processOf (t .processes) (t .count) pid in
+      cond (ltb k (t .count)) (serve k (processAt (t .processes) k)) other)
   unfolding findOf onFound
   on-found serve other l f e g = rw (sym g ∙ e) (by (ltb (processOf (t .processes) (t .count) pid) (t .count)))
     where
       k : ℕ
       k = processOf (t .processes) (t .count) pid
 
-      by : (b : Bool) → onFound serve other (cond b (At k (processAt (t .processes) k)) Unlisted) ≡ cond b (serve k (processAt (t .processes) k)) other
+      by : (b : Bool) → onFound serve other (cond b (At k (processAt (t .processes) k)) Unlisted)
+          ≡ cond b (serve k (processAt (t .processes) k)) other
       by true = refl
       by false = refl
 

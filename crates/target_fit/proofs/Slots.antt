@@ -1,5 +1,5 @@
--- Laws of a table as arrays: each slot's id, site and plain bytes, and the first free one; and of a record of the code, whose table has
--- its shape. Assumes nothing.
+-- Laws of a table as arrays: each slot's id, site and plain bytes, and the first free one; and of a record of the code,
+-- whose table has its shape. Assumes nothing.
 use mathlib.Core.Path.{_≡_, refl, ap, _∙_}
 use mathlib.Core.List.{List, [], _∷_, _++_}
 use Prim.Native.Nat.{ℕ, zero, suc, _+_, _*_, _/_, _%_, _<_}
@@ -22,7 +22,7 @@ use Rattle.target.specs.declared.Entry.{Entry}
 use Rattle.target.specs.declared.Target.{Target}
 use Rattle.target.proofs.Shape.{EntryShape, entry-shape, table-entries, table-entry, target-table}
 use Rattle.target.proofs.Target as target
-use Rattle.target_fit.specs.Arrays.{noId, idOf, siteOf, idsOf, sitesOf, plainsOf}
+use Rattle.target_fit.specs.Arrays.{freeId, idOf, siteOf, idsOf, sitesOf, plainsOf}
 use Rattle.target_fit.specs.Fit.{entryAt}
 
 -- ---- ids and sites, place by place
@@ -31,7 +31,8 @@ pub ids-tab : (es : List Entry) (n : ℕ) → length es ≡ n → idsOf es ≡ t
 unfolding idsOf
 ids-tab es n z = tab-map idOf es noEntry n z
 
-pub sites-tab : (base : ℕ) (es : List Entry) (n : ℕ) → length es ≡ n → sitesOf base es ≡ tab n (λ k. siteOf base (entryAt es k))
+pub sites-tab : (base : ℕ) (es : List Entry) (n : ℕ) → length es ≡ n
+    → sitesOf base es ≡ tab n (λ k. siteOf base (entryAt es k))
 unfolding sitesOf
 sites-tab base es n z = tab-map (siteOf base) es noEntry n z
 
@@ -44,7 +45,12 @@ pub length-plains : (es : List Entry) → TwoEach es → length (plainsOf es) �
 unfolding plainsOf
 length-plains [] two = refl
 length-plains (e ∷ es) two =
-    omega (arith, length-append (e .plain) (plainsOf es), two 0 (omega arith), length-plains es (λ k h. two (suc k) (omega arith)))
+    omega (
+      arith,
+      length-append (e .plain) (plainsOf es),
+      two 0 (omega arith),
+      length-plains es (λ k h. two (suc k) (omega arith)),
+    )
 
 pub sixteen-plains : (es : List Entry) → length es ≡ 8 → TwoEach es → length (plainsOf es) ≡ 16
 sixteen-plains es z two = omega (arith, length-plains es two)
@@ -78,17 +84,17 @@ plains-tab es z two =
 
 -- ---- the first free entry, by the ids
 
-is-free : (e : Entry) → e .id < 256 → eqb noId (idOf e) ≡ isFree e
+is-free : (e : Entry) → e .id < 256 → eqb freeId (idOf e) ≡ isFree e
 unfolding idOf
-is-free e h = on-test (isFree e) (λ q. rw q) (λ q. rw q (ne-eqb noId (e .id) (λ z. omega arith)))
+is-free e h = on-test (isFree e) (λ q. rw q) (λ q. rw q (ne-eqb freeId (e .id) (λ z. omega arith)))
 
 -- every id is a byte
 abbrev pub Small : List Entry → Type 0
 Small es = (k : ℕ) → k < length es → entryAt es k .id < 256
 
-pub first-free : (es : List Entry) → Small es → firstOf (eqb noId) (idsOf es) ≡ firstFree es
+pub first-free : (es : List Entry) → Small es → firstOf (eqb freeId) (idsOf es) ≡ firstFree es
 unfolding idsOf firstFree
-first-free es h = first-map (eqb noId) idOf isFree es noEntry (λ k g. is-free (entryAt es k) (h k g))
+first-free es h = first-map (eqb freeId) idOf isFree es noEntry (λ k g. is-free (entryAt es k) (h k g))
 
 -- ---- the table of a record of the code
 

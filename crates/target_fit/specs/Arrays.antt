@@ -2,20 +2,20 @@
 use Prim.Native.Nat.{ℕ, _-_}
 use mathlib.Core.Bool.{cond}
 use mathlib.Core.List.{List, [], _∷_, _++_, map}
-use Rattle.memory.specs.Overlay.{noSite}
+use Rattle.memory.specs.Overlay.{freeSite}
 use Rattle.target.specs.declared.Entry.{Entry}
 use Rattle.target.specs.Free.{isFree}
 
 -- the id of a free slot: over 255, so no breakpoint's
-abbrev pub noId : ℕ
-noId = 256
+abbrev pub freeId : ℕ
+freeId = 256
 
 unfoldable pub idOf : Entry → ℕ
-idOf e = cond (isFree e) noId (e .id)
+idOf e = cond (isFree e) freeId (e .id)
 
 -- a slot's site, as an offset into the window at base
 unfoldable pub siteOf : ℕ → Entry → ℕ
-siteOf base e = cond (isFree e) noSite (e .site - base)
+siteOf base e = cond (isFree e) freeSite (e .site - base)
 
 unfoldable pub idsOf : List Entry → List ℕ
 idsOf es = map idOf es

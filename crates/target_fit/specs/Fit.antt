@@ -8,7 +8,7 @@ use Rattle.common.specs.Every.{every}
 use Rattle.common.specs.First.{firstOf}
 use Rattle.condition.specs.Depth.{wellBegun, wellFormed}
 use Rattle.memory.specs.Head.{Head}
-use Rattle.memory.specs.Overlay.{noSite}
+use Rattle.memory.specs.Overlay.{freeSite}
 use Rattle.memory.specs.Place.{isSite}
 pub use Rattle.target.specs.Limits.{stopped}
 use Rattle.target.specs.Limits.{maxEntries, maxProcesses}
@@ -18,7 +18,7 @@ use Rattle.target.specs.declared.Process.{Process}
 use Rattle.target.specs.declared.Target.{Target}
 use Rattle.target.specs.Fresh.{noEntry, noProcess}
 use Rattle.target.specs.Free.{isFree, firstFree}
-use Rattle.target_fit.specs.Arrays.{noId, idOf, idsOf, sitesOf, plainsOf}
+use Rattle.target_fit.specs.Arrays.{freeId, idOf, idsOf, sitesOf, plainsOf}
 use Rattle.target_fit.specs.declared.Lookup.{Lookup}
 use Rattle.target_fit.specs.declared.Lookup.the-variants.{At, Unlisted}
 use Rattle.target_fit.specs.declared.Scan.{Scan}
@@ -28,7 +28,8 @@ use Rattle.target_fit.specs.declared.Scan.{Scan}
 -- "M is a multiple of 4 from 4 to 65,536. B is a multiple of 4, at least 4,096, and B + M is at most 2^32"
 unfoldable pub windowFit : ℕ → ℕ → Bool
 windowFit base size =
-    eqb (size % 4) 0 && leb 4 size && leb size 65536 && eqb (base % 4) 0 && leb 4096 base && leb (base + size) 4294967296
+    eqb (size % 4) 0 && leb 4 size && leb size 65536 && eqb (base % 4) 0 && leb 4096 base
+    && leb (base + size) 4294967296
 
 abbrev pub processAt : List Process → ℕ → Process
 processAt ps i = getD ps i noProcess
@@ -57,7 +58,8 @@ siteFit h base mem s =
 
 -- "each condition is well formed"
 unfoldable pub entryFit : Head → ℕ → List ℕ → Entry → Bool
-entryFit h base mem e = isFree e || (eqb (e .used) 1 && siteFit h base mem (e .site) && wellFormed (e .elements) (e .count))
+entryFit h base mem e = isFree e || (eqb (e .used) 1 && siteFit h base mem (e .site)
+    && wellFormed (e .elements) (e .count))
 
 -- the entry at index i is fit, and apart from every one before it
 unfoldable pub slotFit : Head → ℕ → List ℕ → List Entry → ℕ → Bool
@@ -99,7 +101,8 @@ entryOf es id = firstOf (eqb id) (idsOf es)
 unfoldable pub draftTest : Draft → List ℕ → ℕ → Bool
 draftTest d ids free =
     eqb (d .active) 0
-    || (eqb (d .active) 1 && wellBegun (d .elements) (d .count) && eqb (firstOf (eqb (d .id)) ids) maxEntries && ltb free maxEntries)
+    || (eqb (d .active) 1 && wellBegun (d .elements) (d .count) && eqb (firstOf (eqb (d .id)) ids) maxEntries
+    && ltb free maxEntries)
 
 unfoldable pub draftFit : Draft → List Entry → Bool
 draftFit d es = draftTest d (idsOf es) (firstFree es)
@@ -115,13 +118,14 @@ fitOf h t mem =
     && currentFit (t .selected) (t .current) (t .processes) (t .count)
     && draftFit (t .table .draft) (t .table .entries)
 
--- ---- what a scan of the table gives: whether the test holds, and the table as arrays; of an unfit one, arrays of free entries
+-- ---- what a scan of the table gives: whether the test holds, and the table as arrays; of an unfit one, arrays of free
+-- entries
 
 abbrev pub unfitScan : Scan
 unfitScan = record {
   fit = false;
-  ids = replicate maxEntries noId;
-  sites = replicate maxEntries noSite;
+  ids = replicate maxEntries freeId;
+  sites = replicate maxEntries freeSite;
   plain = replicate (2 * maxEntries) 0;
 }
 

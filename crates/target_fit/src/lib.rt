@@ -13,7 +13,8 @@ ghost use Rattle.common.specs.Every.{every};
 ghost use Rattle.target_fit.specs.Fit.{windowFit, processesFit, markFit, marksFit, processOf, findOf, currentFit};
 ghost use Rattle.target.specs.Limits.{maxProcesses, blockSize};
 
-// Whether the test holds and, where it does, the ids, the sites as offsets into the window, and the plain bytes of the entries.
+// Whether the test holds and, where it does, the ids, the sites as offsets into the window, and the plain bytes of the
+// entries.
 pub struct Scan {
     pub fit: bool,
     pub ids: [u32; Table::ENTRIES],
@@ -23,8 +24,9 @@ pub struct Scan {
 
 impl Scan {
     // The id and the site of a free entry.
-    pub const NO_ID: u32 = 256;
-    pub const NO_SITE: u32 = 1;
+    pub const FREE_ID: u32 = 256;
+
+    pub const FREE_SITE: u32 = 1;
 }
 
 // Where the process with a pid stands, and the process.
@@ -71,7 +73,8 @@ fn pid_free(pids: &[u32; Target::PROCESSES], n: usize, pid: u32) -> bool
     true
 }
 
-// The bounds on the processes and their pids. The pids seen are kept in an array, which is lent: the processes would be copied.
+// The bounds on the processes and their pids. The pids seen are kept in an array, which is lent: the processes would be
+// copied.
 pub fn processes_fit(ps: [Process; Target::PROCESSES], count: u32) -> bool
     ensures { λ r. ⌜ r ≡ processesFit ps count ⌝ }
 {

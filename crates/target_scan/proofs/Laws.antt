@@ -19,9 +19,9 @@ use Rattle.target.specs.Free.{isFree}
 use Rattle.condition.specs.Depth.{depthOf, wellFormed}
 use Rattle.target.proofs.Shape.{EntryShape}
 use Rattle.memory.specs.Head.{house}
-use Rattle.memory.specs.Overlay.{noSite}
+use Rattle.memory.specs.Overlay.{freeSite}
 use Rattle.memory.specs.Place.{isSite}
-use Rattle.target_fit.specs.Arrays.{noId, idOf, siteOf}
+use Rattle.target_fit.specs.Arrays.{freeId, idOf, siteOf}
 use Rattle.target_fit.specs.Fit.{
   windowFit,
   processesFit,
@@ -107,7 +107,8 @@ module _ (base : ℕ) (mem : List ℕ) (e f : Entry) (q : isFree f ≡ false) wh
 -- ---- the walk over the table
 
 -- a failed test: the arrays are of free entries
-pub unfit-scan : (test : Bool) (base : ℕ) (es : List Entry) (r : Scan) → r ≡ unfitScan → test ≡ false → r ≡ scanOf test base es
+pub unfit-scan : (test : Bool) (base : ℕ) (es : List Entry) (r : Scan) → r ≡ unfitScan → test ≡ false
+    → r ≡ scanOf test base es
 unfolding scanOf
 unfit-scan test base es r h e = rw e h
 
@@ -117,36 +118,39 @@ pub record Scanning (base : ℕ) (mem : List ℕ) (es : List Entry) (ids sites p
   pub even : base % 2 ≡ 0
   pub size : length es ≡ 8
   pub shape : (k : ℕ) → k < 8 → EntryShape (entryAt es k)
-  pub its-ids : ids ≡ filled (λ k. idOf (entryAt es k)) (λ _. noId) i 8
-  pub its-sites : sites ≡ filled (λ k. siteOf base (entryAt es k)) (λ _. noSite) i 8
+  pub its-ids : ids ≡ filled (λ k. idOf (entryAt es k)) (λ _. freeId) i 8
+  pub its-sites : sites ≡ filled (λ k. siteOf base (entryAt es k)) (λ _. freeSite) i 8
   pub its-plain : plain ≡ filled (plainByte es) (λ _. 0) (2 * i) 16
   pub fit : every i (slotFit house base mem es) ≡ true
 
 pub scan-none : (base : ℕ) (mem : List ℕ) (es : List Entry) → base % 2 ≡ 0 → length es ≡ 8
     → ((k : ℕ) → k < 8 → EntryShape (entryAt es k))
-    → Scanning base mem es (replicate 8 noId) (replicate 8 noSite) (replicate 16 0) 0
+    → Scanning base mem es (replicate 8 freeId) (replicate 8 freeSite) (replicate 16 0) 0
 unfolding every
 scan-none base mem es even size shape = record {
   within = omega arith;
   even = even;
   size = size;
   shape = shape;
-  its-ids = fill-none _ noId 8;
-  its-sites = fill-none _ noSite 8;
+  its-ids = fill-none _ freeId 8;
+  its-sites = fill-none _ freeSite 8;
   its-plain = fill-none _ 0 16;
   fit = refl;
 }
 
 -- every entry is passed: the arrays are the table's
-pub scan-all : (base : ℕ) (mem : List ℕ) (es : List Entry) (ids sites plain : List ℕ) (i : ℕ) → Scanning base mem es ids sites plain i
-    → 8 ≤ i → record { fit = true; ids = ids; sites = sites; plain = plain } ≡ scanOf (entriesFit house base mem es) base es
+pub scan-all : (base : ℕ) (mem : List ℕ) (es : List Entry) (ids sites plain : List ℕ) (i : ℕ)
+    → Scanning base mem es ids sites plain i
+    → 8 ≤ i → record { fit = true; ids = ids; sites = sites; plain = plain } ≡ scanOf (entriesFit house base mem es)
+    base es
 unfolding entriesFit scanOf
 scan-all base mem es ids sites plain i p h =
     rw (
       ← every-done 8 i (slotFit house base mem es) h (p .within) (p .fit),
       p .its-ids ∙ fill-whole _ _ _ _ h ∙ sym (ids-tab es 8 (p .size)),
       p .its-sites ∙ fill-whole _ _ _ _ h ∙ sym (sites-tab base es 8 (p .size)),
-      p .its-plain ∙ fill-whole _ _ _ _ (omega arith) ∙ sym (plains-tab es (p .size) (λ k g. p .shape k (omega (arith, p .size)) .plain)),
+      p .its-plain ∙ fill-whole _ _ _ _ (omega arith)
+          ∙ sym (plains-tab es (p .size) (λ k g. p .shape k (omega (arith, p .size)) .plain)),
     )
 
 module _ {base : ℕ} {mem : List ℕ} {es : List Entry} {ids sites plain : List ℕ} {i : ℕ}
@@ -169,8 +173,8 @@ module _ {base : ℕ} {mem : List ℕ} {es : List Entry} {ids sites plain : List
       rw next (fill-set _ _ _ 16 first (getD (e .plain) 1 0) (rw (high, one)))
 
   -- the entry is fit, and the arrays hold it
-  scan-more : (its others : List ℕ) → its ≡ filled (λ k. idOf (entryAt es k)) (λ _. noId) (i + 1) 8
-      → others ≡ filled (λ k. siteOf base (entryAt es k)) (λ _. noSite) (i + 1) 8 → slotFit house base mem es i ≡ true
+  scan-more : (its others : List ℕ) → its ≡ filled (λ k. idOf (entryAt es k)) (λ _. freeId) (i + 1) 8
+      → others ≡ filled (λ k. siteOf base (entryAt es k)) (λ _. freeSite) (i + 1) 8 → slotFit house base mem es i ≡ true
       → Scanning base mem es its others stored (i + 1)
   scan-more its others a b t = record {
     within = omega arith;
@@ -191,7 +195,8 @@ module _ {base : ℕ} {mem : List ℕ} {es : List Entry} {ids sites plain : List
 
     pub scan-free : Scanning base mem es ids sites stored (i + 1)
     unfolding idOf siteOf
-    scan-free = scan-more ids sites (p .its-ids ∙ fill-keep _ _ _ _ (rw q)) (p .its-sites ∙ fill-keep _ _ _ _ (rw q)) free-slot
+    scan-free = scan-more ids sites (p .its-ids ∙ fill-keep _ _ _ _ (rw q)) (p .its-sites ∙ fill-keep _ _ _ _ (rw q))
+        free-slot
 
   -- a used entry, and whether it passes its own tests
   module _ (q : isFree e ≡ false) (depth : ℕ) (d : depth ≡ depthOf (e .elements) (e .count)) (passed : Bool)
@@ -216,7 +221,10 @@ module _ {base : ℕ} {mem : List ℕ} {es : List Entry} {ids sites plain : List
       clear-apart =
           every-ext i _ _
           (λ k g.
-          rw (fill-before _ _ i 8 (p .its-ids) 0 k g (omega arith), fill-before _ _ i 8 (p .its-sites) 0 k g (omega arith))
+          rw (
+            fill-before _ _ i 8 (p .its-ids) 0 k g (omega arith),
+            fill-before _ _ i 8 (p .its-sites) 0 k g (omega arith),
+          )
           (apart-clear base mem (entryAt es k) e q (p .even) (p .shape i h .id) its-site
           (and-both _ _ (every-at i (slotFit house base mem es) (p .fit) k g) .0)))
 
@@ -230,7 +238,8 @@ module _ {base : ℕ} {mem : List ℕ} {es : List Entry} {ids sites plain : List
         unfolding entriesFit
         scan-clash r = every-fails 8 (slotFit house base mem es) i h (slot-by ∙ not-true alone r)
 
-        pub scan-used : not alone ≡ false → Scanning base mem es (set ids i (e .id)) (set sites i (e .site - base)) stored (i + 1)
+        pub scan-used : not alone ≡ false → Scanning base mem es (set ids i (e .id)) (set sites i (e .site - base))
+            stored (i + 1)
         unfolding idOf siteOf
         scan-used r =
             scan-more (set ids i (e .id)) (set sites i (e .site - base)) (fill-set _ _ _ _ (p .its-ids) (e .id) (rw q))
@@ -283,7 +292,8 @@ module _ (t : Target) (mem : List ℕ) where
     pub fit-table : r .fit ≡ false → fitOf house t mem ≡ false
     fit-table h = fit-entries (sym holds ∙ h)
 
-    module _ (h : r .fit ≡ true) (small : Small (t .table .entries)) (free : ℕ) (f : free ≡ firstOf (eqb noId) (r .ids)) (test : Bool)
+    module _ (h : r .fit ≡ true) (small : Small (t .table .entries)) (free : ℕ)
+        (f : free ≡ firstOf (eqb freeId) (r .ids)) (test : Bool)
         (d : test ≡ draftTest (t .table .draft) (r .ids) free) where
       whole : r ≡ scanOf true (t .base) (t .table .entries)
       whole = scan-is _ _ _ r s (sym holds ∙ h)
@@ -297,7 +307,8 @@ module _ (t : Target) (mem : List ℕ) where
 
       -- every test passed: the scan is the record's
       pub fit-whole : windowFit (t .base) (t .size) ≡ true → processesFit (t .processes) (t .count) ≡ true
-          → marksFit (t .processes) (t .count) ≡ true → currentFit (t .selected) (t .current) (t .processes) (t .count) ≡ true
+          → marksFit (t .processes) (t .count) ≡ true → currentFit (t .selected) (t .current) (t .processes) (t .count)
+          ≡ true
           → test ≡ true → r ≡ scanOf (fitOf house t mem) (t .base) (t .table .entries)
       unfolding fitOf
       fit-whole w p m c e =

@@ -1,6 +1,7 @@
 // Whether a record is fit, and the table of a fit record as small arrays of numbers.
 //
-// One function walks the table: it tests the entries and fills the arrays in the same pass. The steps work on the arrays.
+// One function walks the table: it tests the entries and fills the arrays in the same pass. The steps work on the
+// arrays.
 use target::Draft;
 use target::Table;
 use target::Target;
@@ -39,10 +40,8 @@ fn clear_of(
     site: u32,
 ) -> bool
     requires { ⌜ n ≤ maxEntries ⌝ }
-    ensures {
-        λ r. ⌜ r ≡ every n
-        (λ j. not (eqb (getD (now (ids .entry)) j 0) id) && not (eqb (getD (now (sites .entry)) j 0) site)) ⌝
-    }
+    ensures { λ r. ⌜ r ≡ every n
+        (λ j. not (eqb (getD (now (ids .entry)) j 0) id) && not (eqb (getD (now (sites .entry)) j 0) site)) ⌝ }
 {
     let mut j: usize = 0;
     while j < n {
@@ -75,8 +74,8 @@ fn unfit() -> Scan
 {
     Scan {
         fit: false,
-        ids: [Scan::NO_ID; Table::ENTRIES],
-        sites: [Scan::NO_SITE; Table::ENTRIES],
+        ids: [Scan::FREE_ID; Table::ENTRIES],
+        sites: [Scan::FREE_SITE; Table::ENTRIES],
         plain: [0; Table::PLAIN],
     }
 }
@@ -87,8 +86,8 @@ fn scan_table(mem: &[u8], base: u32, t: Table) -> Scan
     requires { ⌜ base % 2 ≡ 0 ⌝ }
     ensures { λ r. ⌜ r ≡ scanOf (entriesFit house base (now (mem .entry)) (t .entries)) base (t .entries) ⌝ }
 {
-    let mut ids: [u32; Table::ENTRIES] = [Scan::NO_ID; Table::ENTRIES];
-    let mut sites: [u32; Table::ENTRIES] = [Scan::NO_SITE; Table::ENTRIES];
+    let mut ids: [u32; Table::ENTRIES] = [Scan::FREE_ID; Table::ENTRIES];
+    let mut sites: [u32; Table::ENTRIES] = [Scan::FREE_SITE; Table::ENTRIES];
     let mut plain: [u8; Table::PLAIN] = [0; Table::PLAIN];
     let mut i: usize = 0;
     while i < Table::ENTRIES {
@@ -183,7 +182,7 @@ pub fn check(t: Target, mem: &[u8]) -> Scan
     }
     let ids = found.ids;
     let draft = table.draft;
-    if !draft_fit(draft, &ids, entry_of(&ids, Scan::NO_ID)) {
+    if !draft_fit(draft, &ids, entry_of(&ids, Scan::FREE_ID)) {
         return unfit();
     }
     found

@@ -24,15 +24,15 @@ nine a b c d e f g h i = record { b0 = a; b1 = b; b2 = c; b3 = d; b4 = e; b5 = f
 -- ---- messages
 
 -- a message and its ten bytes
-pub record Row : Type 0 where
+pub record Example : Type 0 where
   pub message : Message
   pub block : List ℕ
 
 -- the ten bytes are given as one number, so that a row shows them as 01 does
-abbrev row : Message → ℕ → Row
+abbrev row : Message → ℕ → Example
 row m b = record { message = m; block = highFirst 10 b }
 
-unfoldable pub messageRows : List Row
+unfoldable pub messageRows : List Example
 messageRows =
     -- case 1
     row (Tmget 0x1004 4) 0x02_00001004_04_00000000 ∷
@@ -71,15 +71,15 @@ messageRows =
 -- ---- blocks that are no message
 
 -- some bytes and what reading them answers
-pub record Refusal : Type 0 where
+pub record Unread : Type 0 where
   pub block : List ℕ
   pub answer : Reading
 
 -- so many bytes, given as one number
-abbrev refusal : ℕ → ℕ → Reading → Refusal
+abbrev refusal : ℕ → ℕ → Reading → Unread
 refusal size b r = record { block = highFirst size b; answer = r }
 
-unfoldable pub refusedBlocks : List Refusal
+unfoldable pub refusedBlocks : List Unread
 refusedBlocks =
     -- case 2: n over 9
     refusal 10 0x02_00001004_0a_00000000 NoMessage ∷

@@ -1,5 +1,5 @@
--- `breakpoint::breakpoint_at` meets its contract: a fit record's breakpoints are at even offsets of the window, and there
--- the slot that covers the offset is the breakpoint. Assumes nothing.
+-- `breakpoint::breakpoint_at` meets its contract: a fit record's breakpoints are at even offsets of the window, and
+-- there the slot that covers the offset is the breakpoint. Assumes nothing.
 use mathlib.Core.Path.{_∙_}
 use native.Mathlib.Omega.{arith}
 use borrow.Author.Needs.{needs}
@@ -16,7 +16,8 @@ returns c =
 returns-2 : tie.Need-returns-2
 returns-2 c =
     let s = c .before .before .before .before in
-    at-none _ _ (s .pre) _ (eight-entries (s .args .t) _ (s .good .0)) (λ l e. c .if2 .taken (omega (arith, s .pre .even)))
+    at-none _ _ (s .pre) _ (eight-entries (s .args .t) _ (s .good .0))
+    (λ l e. c .if2 .taken (omega (arith, s .pre .even)))
 
 cast-slot-of : tie.Need-cast-slot-of
 cast-slot-of c = search needs

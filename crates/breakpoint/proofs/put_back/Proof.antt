@@ -1,4 +1,5 @@
--- `breakpoint::put_back` meets its contract: the scan's slot of a used entry has its offset and its two plain bytes. Assumes nothing.
+-- `breakpoint::put_back` meets its contract: the scan's slot of a used entry has its offset and its two plain bytes.
+-- Assumes nothing.
 use borrow.Author.Needs.{needs}
 use Rattle.rules.specs.Breakpoint.{removed}
 use Rattle.breakpoint.proofs.Laws.{shaped-of, slot-site, slot-plain}

@@ -25,4 +25,5 @@ sanirvoq-step-setup-spec 𝓤 H 𝓜 𝓖 𝓡 =
     entered 𝓤 H (tripleOf 𝓤 H (𝓖 .A) f.signature (f.spec 𝓤 H (𝓖 .A) (𝓜 .mem) (𝓡 .run)))
     (tables 𝓤 H 𝓜 𝓡 code.env .C) (tables 𝓤 H 𝓜 𝓡 code.env .Λ) #f code.function (code.unfolded 𝓤 H 𝓜 𝓡)
     (thin-meets 𝓤 H (𝓖 .A) (givenOf 𝓤 H 𝓜 𝓖) φ #inner (tablesOf 𝓤 H 𝓜 (tables 𝓤 H 𝓜 𝓡 code.env))
-    (cited 𝓤 H (Inner φ 𝓤 H (𝓖 .A)) 𝓜 𝓡 code.env #inner inner-def.routine code.calls-capi-results·setup (inner-thm.met 𝓤 H 𝓜 𝓖 𝓡)))
+    (cited 𝓤 H (Inner φ 𝓤 H (𝓖 .A)) 𝓜 𝓡 code.env #inner inner-def.routine code.calls-capi-results·setup
+    (inner-thm.met 𝓤 H 𝓜 𝓖 𝓡)))

@@ -1,4 +1,5 @@
--- `store_draft` meets its contract: a walk of its MIR, by hand. Where the flag is set the condition in hand is stored, in a record that is lent.
+-- `store_draft` meets its contract: a walk of its MIR, by hand. Where the flag is set the condition in hand is stored,
+-- in a record that is lent.
 -- Assumes nothing.
 use mathlib.Core.Path.{_≡_, refl, ap, sym, _∙_}
 use mathlib.Core.Bool.{not}
@@ -18,7 +19,8 @@ use ghost.Atoms.{Atoms}
 use contract.Monad.{Fun}
 use contract.Running.{givenOf, tables, tablesOf}
 use types.Kit.{Given, ‵, Sq, prop, _$_, !, move}
-use types.Run.{look, init, forget, stop, hop, fld, from, load, of-opd, and-then, no-more, assigns, assigns-last, land, enter, alloc1, alloc0, params1, pass1, pass0}
+use types.Run.{look, init, forget, stop, hop, fld, from, load, of-opd, and-then, no-more, assigns, assigns-last, land}
+use types.Run.{enter, alloc1, alloc0, params1, pass1, pass0}
 use types.Part.{whole, sub, look-in, store-in}
 use types.SemTy.{Body}
 use sound.WpLaws.{FmC, fmOf}
@@ -40,7 +42,8 @@ use Rattle.target_change.specs.Parts.{draftAfter}
 use Rattle.capi_parts.specs.Stored.{storeDraft}
 use Rattle.capi_parts.proofs.Left as D
 use Rattle.capi_parts.proofs.Left.Laws as D′
-use Rattle.capi_lent.proofs.Stores.{machᴰ, on-true, drafted, draft-is, drafted-is, Piece, struct-piece, valsOf, Answers, calls-plain, when, opened, shut, Exit, ends}
+use Rattle.capi_lent.proofs.Stores.{machᴰ, on-true, drafted, draft-is, drafted-is, Piece, struct-piece, valsOf}
+use Rattle.capi_lent.proofs.Stores.{Answers, calls-plain, when, opened, shut, Exit, ends}
 use Rattle.capi_lent.proofs.Stores.{stores-meets}
 use Rattle.capi_parts.proofs.draft_left as r
 use Rattle.capi_parts.proofs.draft_left.Symbol as r-def
@@ -52,7 +55,8 @@ use Rattle.capi_lent.proofs.store_draft.Statement as stated
 use Rattle.capi_lent.proofs.store_draft.Code as code
 
 -- the record that is left, in each arm
-changed : (h : Target) (d : Left) (r : Draft) → Holds (d .draft) → r ≡ draftAfter (h .table .draft) (d .change) → drafted h r ≡ storeDraft d h
+changed : (h : Target) (d : Left) (r : Draft) → Holds (d .draft) → r ≡ draftAfter (h .table .draft) (d .change)
+    → drafted h r ≡ storeDraft d h
 unfolding storeDraft withDraft withTable
 changed h d r on e = ap (drafted h) e ∙ sym (on-true (d .draft) _ _ on)
 
@@ -60,7 +64,8 @@ same : (h : Target) (d : Left) → Holds (not (d .draft)) → h ≡ storeDraft d
 unfolding storeDraft
 same h d off = sym (cond-no (d .draft) _ _ off)
 
-module _ {M : Type 1} (𝓤 : URA M) (H : Heap 𝓤) (A : Atoms 𝓤) (W : Given 𝓤 H A) (at-mem : Memory → SProp 𝓤) (run : Routine → Fun 𝓤) where
+module _ {M : Type 1} (𝓤 : URA M) (H : Heap 𝓤) (A : Atoms 𝓤) (W : Given 𝓤 H A) (at-mem : Memory → SProp 𝓤)
+    (run : Routine → Fun 𝓤) where
   abbrev part : Piece 𝓤 H A
   part = struct-piece 𝓤 H A W P.the-type P′.the-laws P′.the-plain
 
@@ -77,36 +82,50 @@ module _ {M : Type 1} (𝓤 : URA M) (H : Heap 𝓤) (A : Atoms 𝓤) (W : Given
     fm = fmOf 𝓤 H (W .laws) 𝓣
 
     new-draft : Answers (𝓣 .C #r) (part ∷ left ∷ []) part (λ a r. r ≡ draftAfter (a .0) (a .1 .0 .change))
-    new-draft = record { Last = Lasts r.ended tt; last = lasts r.ended tt; met = λ a. r-known ((tt, tt, tt, a, valsOf (part ∷ left ∷ []) a), tt) }
+    new-draft = record {
+      Last = Lasts r.ended tt;
+      last = lasts r.ended tt;
+      met = λ a. r-known
+          ((tt, tt, tt, a, valsOf (part ∷ left ∷ []) a), tt);
+    }
 
     walk : Sq W (‵ (fobs γ (T.the-row .coded .code h)) ∷ ‵ (fbor κ (Body (mem T.the-row) b o γ)) ∷ ‵ (flft κ q) ∷ [])
-        (prop (WpFn 𝓤 H (𝓣 .C) (𝓣 .Λ) code.function (vptr b o ∷ machᴰ d ∷ []) (Exit 𝓤 H A W storeDraft κ q b o γ h d d-is)))
+        (prop (WpFn 𝓤 H (𝓣 .C) (𝓣 .Λ) code.function (vptr b o ∷ machᴰ d ∷ [])
+        (Exit 𝓤 H A W storeDraft κ q b o γ h d d-is)))
     walk =
         enter ! (𝓣 .C) (𝓣 .Λ) code.function (vptr b o ∷ machᴰ d ∷ []) _ $
-        alloc1 ! (λ m₀. alloc1 ! (λ m₁. alloc1 ! (λ m₂. alloc1 ! (λ m₃. alloc1 ! (λ m₄. alloc1 ! (λ m₅. alloc0 ! $ params1 ! $
-        pass1 ! (init ! 8 refl (tt, tt)) $ pass1 ! (init ! 6 refl (LL.lawful D.the-type D′.the-laws 𝓤 H A W .typed d _ d-is .0)) $ pass0 ! $
+        alloc1 ! (λ m₀. alloc1 !
+        (λ m₁. alloc1 ! (λ m₂. alloc1 ! (λ m₃. alloc1 ! (λ m₄. alloc1 ! (λ m₅. alloc0 ! $ params1 ! $
+        pass1 ! (init ! 8 refl (tt, tt)) $
+        pass1 ! (init ! 6 refl (LL.lawful D.the-type D′.the-laws 𝓤 H A W .typed d _ d-is .0)) $ pass0 ! $
         -- the borrow is opened, and the flag is read
         move ! (12 ∷ 13 ∷ 14 ∷ 8 ∷ 9 ∷ 6 ∷ 7 ∷ 10 ∷ 11 ∷ 0 ∷ 1 ∷ 4 ∷ 5 ∷ 2 ∷ 3 ∷ []) $
         opened ! tt h b o (λ p.
         -- [the record; its open borrow; obs; auth; _1; …; _2; …; room for _0; …; for _5; …; for _3; …; for _4; …]
-        assigns ! (of-opd ! (load ! (from ! (fld ! refl (stop !))) (look-in ! 6 (sub ! 5 refl (whole !))))) (from ! (stop !)) (init ! 12 refl (tt, tt)) $
+        assigns ! (of-opd ! (load ! (from ! (fld ! refl (stop !))) (look-in ! 6 (sub ! 5 refl (whole !)))))
+        (from ! (stop !)) (init ! 12 refl (tt, tt)) $
         when ! (load ! (from ! (stop !)) (look ! 12 refl))
         -- the new condition is made and stored
         (λ on back.
-        assigns ! (of-opd ! (load ! (from ! (hop ! (look ! 4 refl) (fld ! refl (fld ! refl (stop !))))) (look-in ! 0 (sub ! 1 refl (sub ! 6 refl (whole !)))))) (from ! (stop !))
+        assigns ! (of-opd ! (load ! (from ! (hop ! (look ! 4 refl) (fld ! refl (fld ! refl (stop !)))))
+        (look-in ! 0 (sub ! 1 refl (sub ! 6 refl (whole !)))))) (from ! (stop !))
         (init ! 10 refl (part .lawful .typed (h .table .draft) _ (draft-is h p) .0)) $
         calls-plain ! fm new-draft (h .table .draft, (d, tt)) (draft-is h p, (d-is, tt))
-        (and-then ! (load ! (from ! (stop !)) (look ! 11 refl)) (and-then ! (load ! (from ! (stop !)) (look ! 7 refl)) (no-more !))) (λ r r-is e.
+        (and-then ! (load ! (from ! (stop !)) (look ! 11 refl))
+        (and-then ! (load ! (from ! (stop !)) (look ! 7 refl)) (no-more !))) (λ r r-is e.
         land ! (from ! (stop !)) (init ! 14 refl (part .lawful .typed r _ r-is .0)) $
-        assigns-last ! (of-opd ! (load ! (from ! (stop !)) (look ! 14 refl))) (from ! (hop ! (look ! 4 refl) (fld ! refl (fld ! refl (stop !)))))
+        assigns-last ! (of-opd ! (load ! (from ! (stop !)) (look ! 14 refl)))
+        (from ! (hop ! (look ! 4 refl) (fld ! refl (fld ! refl (stop !)))))
         (store-in ! 0 (sub ! 1 refl (sub ! 6 refl (whole !))) (part .lawful .typed r _ r-is .0)) $
         -- the borrow is closed at the new record
         back _ $ forget ! 10 refl $ forget ! 12 refl $ forget ! 14 refl $
         shut ! tt (drafted h r) b o (drafted-is h r p r-is) $
-        ends 𝓤 H A W storeDraft κ q b o γ h d d-is (𝓣 .C) (𝓣 .Λ) fm m₀ m₁ m₂ ((tyBool, m₃) ∷ (P′.mir, m₄) ∷ []) P′.mir m₅ (drafted h r) (changed h d r on e)))
+        ends 𝓤 H A W storeDraft κ q b o γ h d d-is (𝓣 .C) (𝓣 .Λ) fm m₀ m₁ m₂ ((tyBool, m₃) ∷ (P′.mir, m₄) ∷ []) P′.mir
+        m₅ (drafted h r) (changed h d r on e)))
         -- the record is as it was
         (λ off. forget ! 12 refl $ shut ! tt h b o p $
-        ends 𝓤 H A W storeDraft κ q b o γ h d d-is (𝓣 .C) (𝓣 .Λ) fm m₀ m₁ m₂ ((tyBool, m₃) ∷ (P′.mir, m₄) ∷ []) P′.mir m₅ h (same h d off)))))))))
+        ends 𝓤 H A W storeDraft κ q b o γ h d d-is (𝓣 .C) (𝓣 .Λ) fm m₀ m₁ m₂ ((tyBool, m₃) ∷ (P′.mir, m₄) ∷ []) P′.mir
+        m₅ h (same h d off)))))))))
 
   meets : (𝓣 : Tables 𝓤 H) → Triple 𝓤 (𝓣 .C #r) Draft-left
       → Meets 𝓤 H A f.signature (WpFn 𝓤 H (𝓣 .C) (𝓣 .Λ) code.function) (f.spec 𝓤 H A at-mem run)
@@ -118,4 +137,5 @@ store-draft-spec 𝓤 H 𝓜 𝓖 𝓡 =
     entered 𝓤 H (tripleOf 𝓤 H (𝓖 .A) f.signature (f.spec 𝓤 H (𝓖 .A) (𝓜 .mem) (𝓡 .run)))
     (tables 𝓤 H 𝓜 𝓡 code.env .C) (tables 𝓤 H 𝓜 𝓡 code.env .Λ) #f code.function (code.unfolded 𝓤 H 𝓜 𝓡)
     (meets 𝓤 H (𝓖 .A) (givenOf 𝓤 H 𝓜 𝓖) (𝓜 .mem) (𝓡 .run) (tablesOf 𝓤 H 𝓜 (tables 𝓤 H 𝓜 𝓡 code.env))
-    (cited 𝓤 H (Draft-left 𝓤 H (𝓖 .A) (givenOf 𝓤 H 𝓜 𝓖) (𝓜 .mem) (𝓡 .run)) 𝓜 𝓡 code.env #r r-def.routine code.calls-capi-parts·draft-left (r-thm.met 𝓤 H 𝓜 𝓖 𝓡)))
+    (cited 𝓤 H (Draft-left 𝓤 H (𝓖 .A) (givenOf 𝓤 H 𝓜 𝓖) (𝓜 .mem) (𝓡 .run)) 𝓜 𝓡 code.env #r r-def.routine
+    code.calls-capi-parts·draft-left (r-thm.met 𝓤 H 𝓜 𝓖 𝓡)))

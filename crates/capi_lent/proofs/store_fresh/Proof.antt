@@ -1,4 +1,5 @@
--- `store_fresh` meets its contract: a walk of its MIR, by hand. Where the flag is set a fresh table is stored, in a record that is lent, and the record is handed on.
+-- `store_fresh` meets its contract: a walk of its MIR, by hand. Where the flag is set a fresh table is stored, in a
+-- record that is lent, and the record is handed on.
 -- Assumes nothing.
 use mathlib.Core.Path.{_≡_, refl, ap, sym, _∙_}
 use mathlib.Core.Bool.{not}
@@ -18,7 +19,8 @@ use ghost.Atoms.{Atoms}
 use contract.Monad.{Fun}
 use contract.Running.{givenOf, tables, tablesOf}
 use types.Kit.{Given, ‵, Sq, prop, _$_, !, move}
-use types.Run.{look, init, forget, stop, hop, fld, from, load, of-opd, no-more, assigns, assigns-last, land, enter, alloc1, alloc0, params1, pass1, pass0}
+use types.Run.{look, init, forget, stop, hop, fld, from, load, of-opd, no-more, assigns, assigns-last, land, enter}
+use types.Run.{alloc1, alloc0, params1, pass1, pass0}
 use types.Part.{whole, sub, look-in, store-in}
 use types.SemTy.{Body}
 use sound.WpLaws.{FmC, fmOf}
@@ -40,7 +42,8 @@ use Rattle.capi_parts.specs.declared.Left.{Left}
 use Rattle.capi_parts.specs.Stored.{storeDraft, storeFresh}
 use Rattle.capi_parts.proofs.Left as D
 use Rattle.capi_parts.proofs.Left.Laws as D′
-use Rattle.capi_lent.proofs.Stores.{machᴰ, on-true, tabled, tabled-is, Piece, struct-piece, Answers, calls-plain, when, Made, Stores, opened, shut, Exit, hands-on, stores-meets}
+use Rattle.capi_lent.proofs.Stores.{machᴰ, on-true, tabled, tabled-is, Piece, struct-piece, Answers, calls-plain}
+use Rattle.capi_lent.proofs.Stores.{when, Made, Stores, opened, shut, Exit, hands-on, stores-meets}
 use Rattle.target.proofs.Table.new as r
 use Rattle.target.proofs.Table.new.Symbol as r-def
 use Rattle.target.proofs.Table.new.Symbol.{name as #r}
@@ -65,7 +68,8 @@ same : (h : Target) (d : Left) → Holds (not (d .fresh)) → storeDraft d h ≡
 unfolding storeFresh
 same h d off = ap (storeDraft d) (sym (cond-no (d .fresh) _ _ off))
 
-module _ {M : Type 1} (𝓤 : URA M) (H : Heap 𝓤) (A : Atoms 𝓤) (W : Given 𝓤 H A) (at-mem : Memory → SProp 𝓤) (run : Routine → Fun 𝓤) where
+module _ {M : Type 1} (𝓤 : URA M) (H : Heap 𝓤) (A : Atoms 𝓤) (W : Given 𝓤 H A) (at-mem : Memory → SProp 𝓤)
+    (run : Routine → Fun 𝓤) where
   abbrev part : Piece 𝓤 H A
   part = struct-piece 𝓤 H A W U.the-type U′.the-laws U′.the-plain
 
@@ -82,26 +86,34 @@ module _ {M : Type 1} (𝓤 : URA M) (H : Heap 𝓤) (A : Atoms 𝓤) (W : Given
     fm = fmOf 𝓤 H (W .laws) 𝓣
 
     new-table : Answers (𝓣 .C #r) ([]) part (λ a r. r ≡ freshTable)
-    new-table = record { Last = Lasts r.ended tt; last = lasts r.ended tt; met = λ a. r-known ((tt, tt, tt, a, tt), tt) }
+    new-table = record {
+      Last = Lasts r.ended tt;
+      last = lasts r.ended tt;
+      met = λ a. r-known ((tt, tt, tt, a, tt), tt);
+    }
 
     walk : Sq W (‵ (fobs γ (T.the-row .coded .code h)) ∷ ‵ (fbor κ (Body (mem T.the-row) b o γ)) ∷ ‵ (flft κ q) ∷ [])
         (prop (WpFn 𝓤 H (𝓣 .C) (𝓣 .Λ) code.function (vptr b o ∷ machᴰ d ∷ []) (Exit 𝓤 H A W made κ q b o γ h d d-is)))
     walk =
         enter ! (𝓣 .C) (𝓣 .Λ) code.function (vptr b o ∷ machᴰ d ∷ []) _ $
-        alloc1 ! (λ m₀. alloc1 ! (λ m₁. alloc1 ! (λ m₂. alloc1 ! (λ m₃. alloc1 ! (λ m₄. alloc1 ! (λ m₅. alloc0 ! $ params1 ! $
-        pass1 ! (init ! 8 refl (tt, tt)) $ pass1 ! (init ! 6 refl (LL.lawful D.the-type D′.the-laws 𝓤 H A W .typed d _ d-is .0)) $ pass0 ! $
+        alloc1 ! (λ m₀. alloc1 !
+        (λ m₁. alloc1 ! (λ m₂. alloc1 ! (λ m₃. alloc1 ! (λ m₄. alloc1 ! (λ m₅. alloc0 ! $ params1 ! $
+        pass1 ! (init ! 8 refl (tt, tt)) $
+        pass1 ! (init ! 6 refl (LL.lawful D.the-type D′.the-laws 𝓤 H A W .typed d _ d-is .0)) $ pass0 ! $
         -- the borrow is opened, and the flag is read
         move ! (12 ∷ 13 ∷ 14 ∷ 8 ∷ 9 ∷ 6 ∷ 7 ∷ 10 ∷ 11 ∷ 0 ∷ 1 ∷ 4 ∷ 5 ∷ 2 ∷ 3 ∷ []) $
         opened ! tt h b o (λ p.
         -- [the record; its open borrow; obs; auth; _1; …; _2; …; room for _0; …; for _5; …; for _3; …; for _4; …]
-        assigns ! (of-opd ! (load ! (from ! (fld ! refl (stop !))) (look-in ! 6 (sub ! 4 refl (whole !))))) (from ! (stop !)) (init ! 12 refl (tt, tt)) $
+        assigns ! (of-opd ! (load ! (from ! (fld ! refl (stop !))) (look-in ! 6 (sub ! 4 refl (whole !)))))
+        (from ! (stop !)) (init ! 12 refl (tt, tt)) $
         when ! (load ! (from ! (stop !)) (look ! 12 refl))
         -- a fresh table is made and stored
         (λ on back.
         calls-plain ! fm new-table tt tt
         (no-more !) (λ r r-is e.
         land ! (from ! (stop !)) (init ! 14 refl (part .lawful .typed r _ r-is .0)) $
-        assigns-last ! (of-opd ! (load ! (from ! (stop !)) (look ! 14 refl))) (from ! (hop ! (look ! 4 refl) (fld ! refl (stop !))))
+        assigns-last ! (of-opd ! (load ! (from ! (stop !)) (look ! 14 refl)))
+        (from ! (hop ! (look ! 4 refl) (fld ! refl (stop !))))
         (store-in ! 0 (sub ! 6 refl (whole !)) (part .lawful .typed r _ r-is .0)) $
         -- the borrow is closed at the new record, which is handed on
         back _ $ forget ! 12 refl $ forget ! 14 refl $
@@ -123,5 +135,7 @@ store-fresh-spec 𝓤 H 𝓜 𝓖 𝓡 =
     entered 𝓤 H (tripleOf 𝓤 H (𝓖 .A) f.signature (f.spec 𝓤 H (𝓖 .A) (𝓜 .mem) (𝓡 .run)))
     (tables 𝓤 H 𝓜 𝓡 code.env .C) (tables 𝓤 H 𝓜 𝓡 code.env .Λ) #f code.function (code.unfolded 𝓤 H 𝓜 𝓡)
     (meets 𝓤 H (𝓖 .A) (givenOf 𝓤 H 𝓜 𝓖) (𝓜 .mem) (𝓡 .run) (tablesOf 𝓤 H 𝓜 (tables 𝓤 H 𝓜 𝓡 code.env))
-    (cited 𝓤 H (Table-new 𝓤 H (𝓖 .A) (givenOf 𝓤 H 𝓜 𝓖) (𝓜 .mem) (𝓡 .run)) 𝓜 𝓡 code.env #r r-def.routine code.calls-target·Table·new (r-thm.met 𝓤 H 𝓜 𝓖 𝓡))
-    (cited 𝓤 H (Next 𝓤 H (𝓖 .A) (givenOf 𝓤 H 𝓜 𝓖) (𝓜 .mem) (𝓡 .run)) 𝓜 𝓡 code.env #g g-def.routine code.calls-capi-lent·store-draft (g-thm.met 𝓤 H 𝓜 𝓖 𝓡)))
+    (cited 𝓤 H (Table-new 𝓤 H (𝓖 .A) (givenOf 𝓤 H 𝓜 𝓖) (𝓜 .mem) (𝓡 .run)) 𝓜 𝓡 code.env #r r-def.routine
+    code.calls-target·Table·new (r-thm.met 𝓤 H 𝓜 𝓖 𝓡))
+    (cited 𝓤 H (Next 𝓤 H (𝓖 .A) (givenOf 𝓤 H 𝓜 𝓖) (𝓜 .mem) (𝓡 .run)) 𝓜 𝓡 code.env #g g-def.routine
+    code.calls-capi-lent·store-draft (g-thm.met 𝓤 H 𝓜 𝓖 𝓡)))

@@ -1,4 +1,5 @@
--- `store_plains` meets its contract: a walk of its MIR, by hand. Where the flag is set the entries' plain bytes are stored, in a record that is lent, and the record is handed on.
+-- `store_plains` meets its contract: a walk of its MIR, by hand. Where the flag is set the entries' plain bytes are
+-- stored, in a record that is lent, and the record is handed on.
 -- Assumes nothing.
 use mathlib.Core.Path.{_≡_, refl, ap, sym, _∙_}
 use mathlib.Core.Bool.{not}
@@ -18,7 +19,8 @@ use ghost.Atoms.{Atoms}
 use contract.Monad.{Fun}
 use contract.Running.{givenOf, tables, tablesOf}
 use types.Kit.{Given, ‵, Sq, prop, _$_, !, move}
-use types.Run.{look, init, forget, stop, hop, fld, from, load, of-opd, and-then, no-more, assigns, assigns-last, land, enter, alloc1, alloc0, params1, pass1, pass0}
+use types.Run.{look, init, forget, stop, hop, fld, from, load, of-opd, and-then, no-more, assigns, assigns-last, land}
+use types.Run.{enter, alloc1, alloc0, params1, pass1, pass0}
 use types.Part.{whole, sub, look-in, store-in}
 use types.SemTy.{Body}
 use sound.WpLaws.{FmC, fmOf}
@@ -40,7 +42,8 @@ use Rattle.capi_parts.specs.declared.Left.{Left}
 use Rattle.capi_parts.specs.Stored.{storeDraft, storeFresh, storePlains}
 use Rattle.capi_parts.proofs.Left as D
 use Rattle.capi_parts.proofs.Left.Laws as D′
-use Rattle.capi_lent.proofs.Stores.{machᴰ, on-true, listed, entries-is, listed-is, Piece, struct-piece, array-piece, valsOf, Answers, calls-plain, when, Made, Stores, opened}
+use Rattle.capi_lent.proofs.Stores.{machᴰ, on-true, listed, entries-is, listed-is, Piece, struct-piece}
+use Rattle.capi_lent.proofs.Stores.{array-piece, valsOf, Answers, calls-plain, when, Made, Stores, opened}
 use Rattle.capi_lent.proofs.Stores.{shut, Exit, hands-on, stores-meets}
 use Rattle.capi_parts.proofs.plains_left as r
 use Rattle.capi_parts.proofs.plains_left.Symbol as r-def
@@ -61,7 +64,8 @@ next d h = storeDraft d (storeFresh d h)
 abbrev made : Made
 made d h = next d (storePlains d h)
 
-changed : (h : Target) (d : Left) (r : List Entry) → Holds (d .plains) → r ≡ withPlains (h .table .entries) (d .plain) → next d (listed h r) ≡ made d h
+changed : (h : Target) (d : Left) (r : List Entry) → Holds (d .plains) → r ≡ withPlains (h .table .entries) (d .plain)
+    → next d (listed h r) ≡ made d h
 unfolding storePlains withEntries withTable
 changed h d r on e = ap (next d) (ap (listed h) e ∙ sym (on-true (d .plains) _ _ on))
 
@@ -69,7 +73,8 @@ same : (h : Target) (d : Left) → Holds (not (d .plains)) → next d h ≡ made
 unfolding storePlains
 same h d off = ap (next d) (sym (cond-no (d .plains) _ _ off))
 
-module _ {M : Type 1} (𝓤 : URA M) (H : Heap 𝓤) (A : Atoms 𝓤) (W : Given 𝓤 H A) (at-mem : Memory → SProp 𝓤) (run : Routine → Fun 𝓤) where
+module _ {M : Type 1} (𝓤 : URA M) (H : Heap 𝓤) (A : Atoms 𝓤) (W : Given 𝓤 H A) (at-mem : Memory → SProp 𝓤)
+    (run : Routine → Fun 𝓤) where
   abbrev part : Piece 𝓤 H A
   part = array-piece 𝓤 H A W N.the-type N′.the-laws N′.the-plain 8
 
@@ -89,37 +94,51 @@ module _ {M : Type 1} (𝓤 : URA M) (H : Heap 𝓤) (A : Atoms 𝓤) (W : Given
     fm = fmOf 𝓤 H (W .laws) 𝓣
 
     new-entries : Answers (𝓣 .C #r) (part ∷ left ∷ []) part (λ a r. r ≡ withPlains (a .0) (a .1 .0 .plain))
-    new-entries = record { Last = Lasts r.ended tt; last = lasts r.ended tt; met = λ a. r-known ((tt, tt, tt, a, valsOf (part ∷ left ∷ []) a), tt) }
+    new-entries = record {
+      Last = Lasts r.ended tt;
+      last = lasts r.ended tt;
+      met = λ a. r-known
+          ((tt, tt, tt, a, valsOf (part ∷ left ∷ []) a), tt);
+    }
 
     walk : Sq W (‵ (fobs γ (T.the-row .coded .code h)) ∷ ‵ (fbor κ (Body (mem T.the-row) b o γ)) ∷ ‵ (flft κ q) ∷ [])
         (prop (WpFn 𝓤 H (𝓣 .C) (𝓣 .Λ) code.function (vptr b o ∷ machᴰ d ∷ []) (Exit 𝓤 H A W made κ q b o γ h d d-is)))
     walk =
         enter ! (𝓣 .C) (𝓣 .Λ) code.function (vptr b o ∷ machᴰ d ∷ []) _ $
-        alloc1 ! (λ m₀. alloc1 ! (λ m₁. alloc1 ! (λ m₂. alloc1 ! (λ m₃. alloc1 ! (λ m₄. alloc1 ! (λ m₅. alloc1 ! (λ m₆. alloc0 ! $ params1 ! $
-        pass1 ! (init ! 10 refl (tt, tt)) $ pass1 ! (init ! 8 refl (LL.lawful D.the-type D′.the-laws 𝓤 H A W .typed d _ d-is .0)) $ pass0 ! $
+        alloc1 ! (λ m₀. alloc1 !
+        (λ m₁. alloc1 ! (λ m₂. alloc1 ! (λ m₃. alloc1 ! (λ m₄. alloc1 ! (λ m₅. alloc1 ! (λ m₆. alloc0 ! $ params1 ! $
+        pass1 ! (init ! 10 refl (tt, tt)) $
+        pass1 ! (init ! 8 refl (LL.lawful D.the-type D′.the-laws 𝓤 H A W .typed d _ d-is .0)) $ pass0 ! $
         -- the borrow is opened, and the flag is read
         move ! (14 ∷ 15 ∷ 16 ∷ 10 ∷ 11 ∷ 8 ∷ 9 ∷ 12 ∷ 13 ∷ 0 ∷ 1 ∷ 6 ∷ 7 ∷ 4 ∷ 5 ∷ 2 ∷ 3 ∷ []) $
         opened ! tt h b o (λ p.
-        -- [the record; its open borrow; obs; auth; _1; …; _2; …; room for _0; …; for _6; …; for _3; …; for _4; …; for _5; …]
-        assigns ! (of-opd ! (load ! (from ! (fld ! refl (stop !))) (look-in ! 6 (sub ! 3 refl (whole !))))) (from ! (stop !)) (init ! 12 refl (tt, tt)) $
+        -- [the record; its open borrow; obs; auth; _1; …; _2; …; room for _0; …; for _6; …; for _3; …; for _4; …; for
+        -- _5; …]
+        assigns ! (of-opd ! (load ! (from ! (fld ! refl (stop !))) (look-in ! 6 (sub ! 3 refl (whole !)))))
+        (from ! (stop !)) (init ! 12 refl (tt, tt)) $
         when ! (load ! (from ! (stop !)) (look ! 12 refl))
         -- the new entries are made and stored
         (λ on back.
-        assigns ! (of-opd ! (load ! (from ! (hop ! (look ! 4 refl) (fld ! refl (fld ! refl (stop !))))) (look-in ! 0 (sub ! 0 refl (sub ! 6 refl (whole !)))))) (from ! (stop !))
+        assigns ! (of-opd ! (load ! (from ! (hop ! (look ! 4 refl) (fld ! refl (fld ! refl (stop !)))))
+        (look-in ! 0 (sub ! 0 refl (sub ! 6 refl (whole !)))))) (from ! (stop !))
         (init ! 16 refl (part .lawful .typed (h .table .entries) _ (entries-is h p) .0)) $
         calls-plain ! fm new-entries (h .table .entries, (d, tt)) (entries-is h p, (d-is, tt))
-        (and-then ! (load ! (from ! (stop !)) (look ! 17 refl)) (and-then ! (load ! (from ! (stop !)) (look ! 7 refl)) (no-more !))) (λ r r-is e.
+        (and-then ! (load ! (from ! (stop !)) (look ! 17 refl))
+        (and-then ! (load ! (from ! (stop !)) (look ! 7 refl)) (no-more !))) (λ r r-is e.
         land ! (from ! (stop !)) (init ! 14 refl (part .lawful .typed r _ r-is .0)) $
-        assigns-last ! (of-opd ! (load ! (from ! (stop !)) (look ! 14 refl))) (from ! (hop ! (look ! 4 refl) (fld ! refl (fld ! refl (stop !)))))
+        assigns-last ! (of-opd ! (load ! (from ! (stop !)) (look ! 14 refl)))
+        (from ! (hop ! (look ! 4 refl) (fld ! refl (fld ! refl (stop !)))))
         (store-in ! 0 (sub ! 0 refl (sub ! 6 refl (whole !))) (part .lawful .typed r _ r-is .0)) $
         -- the borrow is closed at the new record, which is handed on
         back _ $ forget ! 12 refl $ forget ! 14 refl $ forget ! 16 refl $
         shut ! tt (listed h r) b o (listed-is h r p r-is) $
-        hands-on 𝓤 H A W made κ q b o γ h d d-is (𝓣 .C) (𝓣 .Λ) fm m₀ m₁ m₂ ((tyBool, m₃) ∷ (tyArray N′.mir 8, m₄) ∷ (tyArray N′.mir 8, m₅) ∷ []) m₆
+        hands-on 𝓤 H A W made κ q b o γ h d d-is (𝓣 .C) (𝓣 .Λ) fm m₀ m₁ m₂
+        ((tyBool, m₃) ∷ (tyArray N′.mir 8, m₄) ∷ (tyArray N′.mir 8, m₅) ∷ []) m₆
         next (listed h r) (changed h d r on e) g-known 6 refl))
         -- the record is as it was
         (λ off. forget ! 12 refl $ shut ! tt h b o p $
-        hands-on 𝓤 H A W made κ q b o γ h d d-is (𝓣 .C) (𝓣 .Λ) fm m₀ m₁ m₂ ((tyBool, m₃) ∷ (tyArray N′.mir 8, m₄) ∷ (tyArray N′.mir 8, m₅) ∷ []) m₆
+        hands-on 𝓤 H A W made κ q b o γ h d d-is (𝓣 .C) (𝓣 .Λ) fm m₀ m₁ m₂
+        ((tyBool, m₃) ∷ (tyArray N′.mir 8, m₄) ∷ (tyArray N′.mir 8, m₅) ∷ []) m₆
         next h (same h d off) g-known 6 refl)))))))))
 
   meets : (𝓣 : Tables 𝓤 H) → Triple 𝓤 (𝓣 .C #r) Plains-left → Triple 𝓤 (𝓣 .C #g) Next
@@ -132,5 +151,7 @@ store-plains-spec 𝓤 H 𝓜 𝓖 𝓡 =
     entered 𝓤 H (tripleOf 𝓤 H (𝓖 .A) f.signature (f.spec 𝓤 H (𝓖 .A) (𝓜 .mem) (𝓡 .run)))
     (tables 𝓤 H 𝓜 𝓡 code.env .C) (tables 𝓤 H 𝓜 𝓡 code.env .Λ) #f code.function (code.unfolded 𝓤 H 𝓜 𝓡)
     (meets 𝓤 H (𝓖 .A) (givenOf 𝓤 H 𝓜 𝓖) (𝓜 .mem) (𝓡 .run) (tablesOf 𝓤 H 𝓜 (tables 𝓤 H 𝓜 𝓡 code.env))
-    (cited 𝓤 H (Plains-left 𝓤 H (𝓖 .A) (givenOf 𝓤 H 𝓜 𝓖) (𝓜 .mem) (𝓡 .run)) 𝓜 𝓡 code.env #r r-def.routine code.calls-capi-parts·plains-left (r-thm.met 𝓤 H 𝓜 𝓖 𝓡))
-    (cited 𝓤 H (Next 𝓤 H (𝓖 .A) (givenOf 𝓤 H 𝓜 𝓖) (𝓜 .mem) (𝓡 .run)) 𝓜 𝓡 code.env #g g-def.routine code.calls-capi-lent·store-fresh (g-thm.met 𝓤 H 𝓜 𝓖 𝓡)))
+    (cited 𝓤 H (Plains-left 𝓤 H (𝓖 .A) (givenOf 𝓤 H 𝓜 𝓖) (𝓜 .mem) (𝓡 .run)) 𝓜 𝓡 code.env #r r-def.routine
+    code.calls-capi-parts·plains-left (r-thm.met 𝓤 H 𝓜 𝓖 𝓡))
+    (cited 𝓤 H (Next 𝓤 H (𝓖 .A) (givenOf 𝓤 H 𝓜 𝓖) (𝓜 .mem) (𝓡 .run)) 𝓜 𝓡 code.env #g g-def.routine
+    code.calls-capi-lent·store-fresh (g-thm.met 𝓤 H 𝓜 𝓖 𝓡)))

@@ -1,4 +1,5 @@
--- `capi_results::leave` meets its contract: the parts that change, stored, make the record after the change. Assumes nothing.
+-- `capi_results::leave` meets its contract: the parts that change, stored, make the record after the change. Assumes
+-- nothing.
 use borrow.Author.Needs.{needs}
 use Rattle.capi_results.proofs.Laws.{stored}
 use Rattle.capi_results.proofs.leave.Statement.{statement}

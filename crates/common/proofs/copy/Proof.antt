@@ -1,4 +1,5 @@
--- `common::copy` meets its contract. The loop's invariant: the first i elements are the source's, the others as they were. Assumes nothing.
+-- `common::copy` meets its contract. The loop's invariant: the first i elements are the source's, the others as they
+-- were. Assumes nothing.
 use mathlib.Core.Path.{_≡_, refl, ap, _∙_}
 use mathlib.Core.List.{List}
 use Prim.Native.Nat.{ℕ, _≤_, _-_, min}
@@ -12,7 +13,8 @@ use Rattle.common.proofs.copy.Statement.{statement}
 use Rattle.common.proofs.copy.Tie as tie
 
 abbrev Inv-loop : tie.InvT-loop
-Inv-loop dst₀ src i₀ dst i = (i ≤ length src) × (i ≤ length dst₀) × (length dst ≡ length dst₀) × (dst ≡ paste dst₀ 0 src i)
+Inv-loop dst₀ src i₀ dst i = (i ≤ length src) × (i ≤ length dst₀) × (length dst ≡ length dst₀)
+    × (dst ≡ paste dst₀ 0 src i)
 
 abbrev μ-loop : tie.MeasureT-loop
 μ-loop dst₀ src i₀ dst i = length src - i
@@ -24,7 +26,8 @@ same-length : tie.Need-same-length Inv-loop μ-loop
 same-length c = omega arith
 
 -- where the loop ends at the shorter length, the copy is whole
-whole : (d s r : List ℕ) (i : ℕ) → i ≡ min (length d) (length s) → r ≡ paste d 0 s i → r ≡ paste d 0 s (min (length d) (length s))
+whole : (d s r : List ℕ) (i : ℕ) → i ≡ min (length d) (length s) → r ≡ paste d 0 s i
+    → r ≡ paste d 0 s (min (length d) (length s))
 whole d s r i e h = h ∙ ap (paste d 0 s) e
 
 returns : tie.Need-returns Inv-loop μ-loop

@@ -1,4 +1,5 @@
--- `common::equal` meets its contract. The loop's invariant: the lists have one length and agree before place i. Assumes nothing.
+-- `common::equal` meets its contract. The loop's invariant: the lists have one length and agree before place i. Assumes
+-- nothing.
 use mathlib.Core.Path.{_≡_, refl, sym}
 use Prim.Native.Nat.{_≤_, _-_}
 use native.Mathlib.Omega.{arith}

@@ -1,4 +1,5 @@
--- `common::word` meets its contract: the four products and sums fit, and the definition computes to them. Assumes nothing.
+-- `common::word` meets its contract: the four products and sums fit, and the definition computes to them. Assumes
+-- nothing.
 use native.Mathlib.Omega.{arith}
 use Rattle.common.specs.Bytes.{ofLowFirst, ofHighFirst}
 use borrow.Author.Needs.{needs}

@@ -1,4 +1,5 @@
--- `common::word_at` meets its contract: the four bytes are in the slice, and the definition reads them. Assumes nothing.
+-- `common::word_at` meets its contract: the four bytes are in the slice, and the definition reads them. Assumes
+-- nothing.
 use borrow.Author.Needs.{needs}
 use Rattle.common.specs.Bytes.{wordAt}
 use Rattle.common.proofs.word_at.Statement.{statement}

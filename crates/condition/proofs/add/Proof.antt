@@ -27,7 +27,8 @@ depth-after-requires c κs =
 returns-2 : tie.Need-returns-2
 returns-2 c =
     let b = c .before in
-    add-short _ _ _ _ (b .before .before .before .if1 .left) (b .before .depth-of .ensures .0) (b .depth-after .ensures .0) (c .if2 .taken)
+    add-short _ _ _ _ (b .before .before .before .if1 .left) (b .before .depth-of .ensures .0)
+    (b .depth-after .ensures .0) (c .if2 .taken)
 
 mul-e : tie.Need-mul-e
 mul-e c = search needs
@@ -42,7 +43,8 @@ returns-3 : tie.Need-returns-3
 unfolding withElement
 returns-3 c =
     let b = c .before in
-    add-fits _ _ _ _ (b .before .before .before .if1 .left) (b .before .depth-of .ensures .0) (b .depth-after .ensures .0) (c .if2 .left)
+    add-fits _ _ _ _ (b .before .before .before .if1 .left) (b .before .depth-of .ensures .0)
+    (b .depth-after .ensures .0) (c .if2 .left)
 
 pub add-spec : {M : Type 1} → statement M
 add-spec =

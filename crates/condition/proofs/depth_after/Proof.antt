@@ -1,4 +1,5 @@
--- `condition::depth_after` meets its contract: each arm of the `match` has the value that the definition gives its letters.
+-- `condition::depth_after` meets its contract: each arm of the `match` has the value that the definition gives its
+-- letters.
 -- Assumes nothing.
 use mathlib.Core.Path.{refl}
 use native.Mathlib.Omega.{arith}
@@ -21,16 +22,30 @@ returns-2 : tie.Need-returns-2
 returns-2 c = (after-push _ _ _ _ (c .before .if1 .left) (c .match .keys1) refl, omega arith)
 
 returns-3 : tie.Need-returns-3
-returns-3 c = (after-load _ _ _ _ (c .before .before .if1 .left) (c .before .match .keys2) (rw (c .if2 .taken)), omega arith)
+returns-3 c = (
+  after-load _ _ _ _ (c .before .before .if1 .left) (c .before .match .keys2) (rw (c .if2 .taken)),
+  omega arith,
+)
 
 returns-4 : tie.Need-returns-4
-returns-4 c = (after-load _ _ _ _ (c .before .before .if1 .left) (c .before .match .keys2) (rw (ne-eqb _ _ (c .if2 .left))), omega arith)
+returns-4 c = (
+  after-load _ _ _ _ (c .before .before .if1 .left) (c .before .match .keys2)
+      (rw (ne-eqb _ _ (c .if2 .left))),
+  omega arith,
+)
 
 returns-5 : tie.Need-returns-5
-returns-5 c = (after-join _ _ _ _ (c .before .before .if1 .left) (c .before .match .keys3) (rw (c .if3 .taken)), omega arith)
+returns-5 c = (
+  after-join _ _ _ _ (c .before .before .if1 .left) (c .before .match .keys3) (rw (c .if3 .taken)),
+  omega arith,
+)
 
 returns-6 : tie.Need-returns-6
-returns-6 c = (after-join _ _ _ _ (c .before .before .if1 .left) (c .before .match .keys3) (rw (ne-eqb _ _ (c .if3 .left))), omega arith)
+returns-6 c = (
+  after-join _ _ _ _ (c .before .before .if1 .left) (c .before .match .keys3)
+      (rw (ne-eqb _ _ (c .if3 .left))),
+  omega arith,
+)
 
 returns-7 : tie.Need-returns-7
 returns-7 c =

@@ -1,4 +1,5 @@
--- `condition::depth_of` meets its contract. The loop's invariant: after the first i elements the depth is d, at most i + 1.
+-- `condition::depth_of` meets its contract. The loop's invariant: after the first i elements the depth is d, at most i
+-- + 1.
 -- Assumes nothing.
 use mathlib.Core.Path.{_≡_, refl}
 use Prim.Native.Nat.{_≤_, _-_, _+_}

@@ -1,5 +1,5 @@
--- `condition::evaluate` meets its contract. The loop's invariant: the truth is that of the elements from place i on, over the
--- stack, which has room for an element more. Assumes nothing.
+-- `condition::evaluate` meets its contract. The loop's invariant: the truth is that of the elements from place i on,
+-- over the stack, which has room for an element more. Assumes nothing.
 use mathlib.Core.Path.{_≡_, refl, ap, _∙_}
 use mathlib.Core.Bool.{true, false}
 use mathlib.Core.List.{List}
@@ -13,7 +13,8 @@ use Rattle.target.specs.declared.Element.{Element}
 use Rattle.condition.specs.Evaluate.{top, fetchOf}
 use Rattle.condition.specs.declared.Fetched.{Fetched}
 use Rattle.condition.proofs.Cells.{pushed}
-use Rattle.condition.proofs.Truth.{given, given-by, got-outside, got-inside, got-stack, Remains, remains-all, remains-more, remains-out, remains-none}
+use Rattle.condition.proofs.Truth.{given, given-by, got-outside, got-inside, got-stack, Remains, remains-all}
+use Rattle.condition.proofs.Truth.{remains-more, remains-out, remains-none}
 use Rattle.condition.proofs.evaluate.Statement.{statement}
 use Rattle.condition.proofs.evaluate.Tie as tie
 
@@ -47,10 +48,19 @@ known v =
     let b = v .before .before in
     let y = b .before .before .top-at .ensures in
     let x = v .before .top-at2 .ensures ∙ ap top (b .below .ensures .3 _ (head v .loop .inv .5)) in
-    v .value-of .ensures ∙ given-by (read v) (start v .args .pid) (element v .letter) (element v .value) (stack v) _ _ x y
+    v .value-of .ensures ∙ given-by (read v) (start v .args .pid) (element v .letter) (element v .value) (stack v) _ _ x
+    y
 
 loop-holds : tie.Need-loop-holds Inv-loop μ-loop
-loop-holds c = (c .before .pre, omega arith, omega arith, omega arith, search needs, search needs, remains-all _ _ _ _ _ refl)
+loop-holds c = (
+  c .before .pre,
+  omega arith,
+  omega arith,
+  omega arith,
+  search needs,
+  search needs,
+  remains-all _ _ _ _ _ refl,
+)
 
 mul-e : tie.Need-mul-e Inv-loop μ-loop
 mul-e c = omega arith
@@ -80,8 +90,10 @@ returns : tie.Need-returns Inv-loop μ-loop
 returns c =
     let v = c .before .before in
     let o = head v .loop .inv in
-    let q = got-outside (read v) (start v .args .pid) (element v .letter) (element v .value) (stack v) _ (known v) (c .enum-told .given .1) in
-    remains-out _ _ _ _ _ (omega arith) _ (o .6) true (v .before .before .before .before .before .before .before .loop-test .taken) q refl
+    let q = got-outside (read v) (start v .args .pid) (element v .letter) (element v .value) (stack v) _ (known v)
+    (c .enum-told .given .1) in
+    remains-out _ _ _ _ _ (omega arith) _ (o .6) true
+    (v .before .before .before .before .before .before .before .loop-test .taken) q refl
 
 stack-without-requires : tie.Need-stack-without-requires Inv-loop μ-loop
 stack-without-requires c κs = (omega arith, omega arith)
@@ -117,7 +129,8 @@ loop-again c =
       omega arith,
       o .4,
       length-set cells (from - 1) word ∙ o .5,
-      remains-more _ _ _ _ _ (omega arith) _ (o .6) false (v .before .before .before .before .before .before .before .loop-test .taken)
+      remains-more _ _ _ _ _ (omega arith) _ (o .6) false
+          (v .before .before .before .before .before .before .before .loop-test .taken)
           (got-inside (read v) (a .pid) (e .letter) (e .value) (stack v) _ (known v) word g) _ refl
           (got-stack (read v) (a .pid) (e .letter) (e .value) (stack v) _ (known v) word g _ (drop from cells)
           (c .stack-without .ensures .2 cells (o .5)) (pushed cells from 17 (o .5) word (omega arith) (omega arith))),

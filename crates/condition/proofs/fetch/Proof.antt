@@ -1,4 +1,5 @@
--- `condition::fetch` meets its contract: outside where an end of the four bytes is, else the word of the four plain bytes.
+-- `condition::fetch` meets its contract: outside where an end of the four bytes is, else the word of the four plain
+-- bytes.
 -- Assumes nothing.
 use borrow.Author.Needs.{needs}
 use Rattle.condition.proofs.Truth.{fetch-below, fetch-above, fetch-word}
@@ -49,7 +50,8 @@ returns-3 c =
     let b0 = b1 .before in
     let w = b0 .before in
     fetch-word _ _ _ _ _ _ _ _ _ _ (w .before .if1 .left) (w .if2 .left)
-    (b0 .plain-at .ensures) (b1 .plain-at2 .ensures) (b2 .plain-at3 .ensures) (b3 .plain-at4 .ensures) (c .word .ensures)
+    (b0 .plain-at .ensures) (b1 .plain-at2 .ensures) (b2 .plain-at3 .ensures) (b3 .plain-at4 .ensures)
+    (c .word .ensures)
 
 pub fetch-spec : {M : Type 1} → statement M
 fetch-spec =

@@ -37,14 +37,16 @@ returns-4 c =
     let a = c .before .before .before .args in
     rw (c .before .before .match .keys4)
     (c .flag3 .ensures
-    ∙ ap flag (⊎-elim (λ w. and-on (a .x) (a .y) _ (w .0 .taken) (w .1)) (λ w. and-off (a .x) (a .y) _ (w .0 .left) (w .1)) (c .before .if1 .came)))
+    ∙ ap flag (⊎-elim (λ w. and-on (a .x) (a .y) _ (w .0 .taken) (w .1))
+    (λ w. and-off (a .x) (a .y) _ (w .0 .left) (w .1)) (c .before .if1 .came)))
 
 returns-5 : tie.Need-returns-5
 returns-5 c =
     let a = c .before .before .before .args in
     let n = c .before .before .match .rest in
     join-or _ _ _ _ (c .before .if2 .flag) (n .0 .0 .0 .1) (n .0 .0 .1) (n .0 .1) (n .1)
-    (⊎-elim (λ w. or-off (a .x) (a .y) _ (w .0 .taken) (w .1)) (λ w. or-on (a .x) (a .y) _ (w .0 .left) (w .1)) (c .before .if2 .came))
+    (⊎-elim (λ w. or-off (a .x) (a .y) _ (w .0 .taken) (w .1)) (λ w. or-on (a .x) (a .y) _ (w .0 .left) (w .1))
+    (c .before .if2 .came))
     (c .flag4 .ensures)
 
 pub join-spec : {M : Type 1} → statement M

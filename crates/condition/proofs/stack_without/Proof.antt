@@ -36,8 +36,12 @@ unfolding leftBy
 returns-4 c =
     let b = c .before .below2 .ensures in
     let d = c .below3 .ensures in
-    let n = c .before .before .match .rest in
-    (omega arith, d .2, λ cells z. rw (ne-eqb _ 107 (n .0 .0 .1), ne-eqb _ 112 (n .0 .1), ne-eqb _ 42 (n .1)) (d .3 cells z ∙ ap rest (b .3 cells z)))
+    let n = c .before .before .match .rest in (
+      omega arith,
+      d .2,
+      λ cells z. rw (ne-eqb _ 107 (n .0 .0 .1), ne-eqb _ 112 (n .0 .1), ne-eqb _ 42 (n .1))
+          (d .3 cells z ∙ ap rest (b .3 cells z)),
+    )
 
 pub stack-without-spec : {M : Type 1} → statement M
 stack-without-spec =

@@ -25,7 +25,8 @@ returns : tie.Need-returns
 unfolding schedule
 returns c =
     let e = c .before in
-    λ mem. refuses _ _ _ 4 (c .keeping .ensures) ∙ unlisted _ _ _ (e .before .before .find .ensures) _ (e .enum-told .given .1)
+    λ mem. refuses _ _ _ 4 (c .keeping .ensures) ∙ unlisted _ _ _ (e .before .before .find .ensures) _
+    (e .enum-told .given .1)
 
 keeping-requires-2 : tie.Need-keeping-requires-2
 keeping-requires-2 c κs = search needs

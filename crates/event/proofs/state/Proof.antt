@@ -1,4 +1,5 @@
--- `event::state` meets its contract: each refusal is the definition's, in its order, and what is left sets the state. Assumes nothing.
+-- `event::state` meets its contract: each refusal is the definition's, in its order, and what is left sets the state.
+-- Assumes nothing.
 use mathlib.Core.Path.{_∙_}
 use borrow.Author.Needs.{needs}
 use Rattle.rules.specs.Event.{state}
@@ -22,7 +23,8 @@ returns : tie.Need-returns
 unfolding state
 returns c =
     let e = c .before in
-    λ mem regs. refuses _ _ _ 4 (c .keeping .ensures) ∙ unlisted _ _ _ (e .before .before .find .ensures) _ (e .enum-told .given .1)
+    λ mem regs. refuses _ _ _ 4 (c .keeping .ensures) ∙ unlisted _ _ _ (e .before .before .find .ensures) _
+    (e .enum-told .given .1)
 
 keeping-requires-2 : tie.Need-keeping-requires-2
 keeping-requires-2 c κs = search needs
@@ -50,7 +52,8 @@ returns-4 c =
     let v = c .before in
     let k = v .before .before .before .before in
     λ mem regs. sets-state _ _ _ _ _ _ (c .changing .ensures)
-    ∙ state-set _ _ _ (k .before .before .find .ensures) _ _ (k .found .given .1) _ (v .before .if1 .left) (v .if2 .left)
+    ∙ state-set _ _ _ (k .before .before .find .ensures) _ _ (k .found .given .1) _ (v .before .if1 .left)
+    (v .if2 .left)
 
 pub state-spec : {M : Type 1} → statement M
 state-spec =

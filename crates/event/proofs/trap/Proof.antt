@@ -1,5 +1,5 @@
--- `event::trap` meets its contract: each refusal is the definition's, in its order, then the condition of the breakpoint at the pc
--- decides, over the plain bytes that the scan of the table gives. Assumes nothing.
+-- `event::trap` meets its contract: each refusal is the definition's, in its order, then the condition of the
+-- breakpoint at the pc decides, over the plain bytes that the scan of the table gives. Assumes nothing.
 use mathlib.Core.Path.{_∙_}
 use native.Mathlib.Omega.{arith}
 use borrow.Author.Needs.{needs}
@@ -11,7 +11,8 @@ use Rattle.rules.specs.Event.{trap}
 use Rattle.rules.proofs.Facts.{Good}
 use Rattle.rules.specs.Record.{pcOf}
 use Rattle.rules.specs.declared.Answer.the-variants.{Stop}
-use Rattle.event.proofs.Laws.{refuses, answers, stops, elements-few, unlisted, trap-stopped, trap-none, trap-stop, trap-pass}
+use Rattle.event.proofs.Laws.{refuses, answers, stops, elements-few, unlisted, trap-stopped, trap-none}
+use Rattle.event.proofs.Laws.{trap-stop, trap-pass}
 use Rattle.event.proofs.trap.Statement.{statement}
 use Rattle.event.proofs.trap.Tie as tie
 
@@ -77,7 +78,8 @@ returns-3 c =
     let k = found-at b in
     refuses _ _ _ 6 (c .keeping3 .ensures)
     ∙ trap-none _ _ _ (search-of k .find .ensures) _ _ (k .found .given .1) _ (b .before .before .if1 .left)
-    (good (begin k) .shaped .entries) _ _ (b .before .word-at .ensures) (b .breakpoint-at .ensures) (c .before .if2 .taken)
+    (good (begin k) .shaped .entries) _ _ (b .before .word-at .ensures) (b .breakpoint-at .ensures)
+    (c .before .if2 .taken)
 
 mul-e : tie.Need-mul-e
 mul-e c = search needs

@@ -1,4 +1,5 @@
--- `memory::lay` meets its contract: an odd site and one past the end lie under no offset; else the two stores are the two bytes laid.
+-- `memory::lay` meets its contract: an odd site and one past the end lie under no offset; else the two stores are the
+-- two bytes laid.
 -- Assumes nothing.
 use mathlib.Core.Path.{_≡_, refl, sym, _∙_}
 use mathlib.Core.List.{List, [], _∷_}
@@ -18,23 +19,27 @@ module _ (mem : List ℕ) (s b0 b1 : ℕ) where
   -- over no offset: odd, or past the end
   none : (s % 2 ≡ 0 → s < length mem → ⊥) → mem ≡ laidOver (b0 ∷ b1 ∷ []) (s ∷ []) mem
   unfolding siteOver
-  none h = sym (laid-one (b0 ∷ b1 ∷ []) s mem mem refl (λ i l e. absurd (h (omega arith) (omega arith))) (λ i l n. refl))
+  none h = sym (laid-one (b0 ∷ b1 ∷ []) s mem mem refl (λ i l e. absurd (h (omega arith) (omega arith)))
+      (λ i l n. refl))
 
   both : s % 2 ≡ 0 → set (set mem s b0) (s + 1) b1 ≡ laidOver (b0 ∷ b1 ∷ []) (s ∷ []) mem
   unfolding siteOver
   both h = sym (laid-one (b0 ∷ b1 ∷ []) s mem (set (set mem s b0) (s + 1) b1) (simp length-set) here away)
     where
-      here : (i : ℕ) → i < length mem → i - i % 2 ≡ s → getD (set (set mem s b0) (s + 1) b1) i 0 ≡ getD (b0 ∷ b1 ∷ []) (i % 2) 0
+      here : (i : ℕ) → i < length mem → i - i % 2 ≡ s
+          → getD (set (set mem s b0) (s + 1) b1) i 0 ≡ getD (b0 ∷ b1 ∷ []) (i % 2) 0
       here i l e = on-same i s
           (λ q. let z : i % 2 ≡ 0 = omega arith in
-          rw (z, q) (getD-set-other (set mem s b0) (s + 1) s b1 0 (λ n. omega arith) ∙ getD-set-same mem s b0 0 (omega arith)))
+          rw (z, q) (getD-set-other (set mem s b0) (s + 1) s b1 0 (λ n. omega arith)
+          ∙ getD-set-same mem s b0 0 (omega arith)))
           (λ n. let z : i % 2 ≡ 1 = omega arith in
           let q : i ≡ s + 1 = omega arith in
           rw (z, q) (getD-set-same (set mem s b0) (s + 1) b1 0 (simp length-set (omega arith))))
 
       away : (i : ℕ) → i < length mem → (i - i % 2 ≡ s → ⊥) → getD (set (set mem s b0) (s + 1) b1) i 0 ≡ getD mem i 0
       away i l n =
-          getD-set-other (set mem s b0) (s + 1) i b1 0 (λ e. n (omega arith)) ∙ getD-set-other mem s i b0 0 (λ e. n (omega arith))
+          getD-set-other (set mem s b0) (s + 1) i b1 0 (λ e. n (omega arith))
+          ∙ getD-set-other mem s i b0 0 (λ e. n (omega arith))
 
 returns : tie.Need-returns
 returns c = none _ _ _ _ (λ e l. c .if1 .taken e)

@@ -82,7 +82,8 @@ loop-again c =
       i .3,
       i .4,
       ap length (w .2) ∙ simp length-set (i .5),
-      w .2 ∙ rw (i .6, mul-comm 2 k, q, ← byte-under 2 s (now (a .plain)) at old (slot-covers 2 s at (omega arith))) (fill-more _ _ _ 9),
+      w .2 ∙ rw (i .6, mul-comm 2 k, q, ← byte-under 2 s (now (a .plain)) at old (slot-covers 2 s at (omega arith)))
+          (fill-more _ _ _ 9),
     ))
     (λ w. (
       omega arith,

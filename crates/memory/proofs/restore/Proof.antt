@@ -1,4 +1,5 @@
--- `memory::restore` meets its contract. The loop's invariant: memory is plain memory of the slots from k on. Assumes nothing.
+-- `memory::restore` meets its contract. The loop's invariant: memory is plain memory of the slots from k on. Assumes
+-- nothing.
 use mathlib.Core.Path.{_≡_, refl, _∙_}
 use mathlib.Core.List.{List, [], _∷_}
 use Prim.Native.Nat.{ℕ, _+_, _-_, _*_, _<_, _≤_}
@@ -15,7 +16,8 @@ use Rattle.memory.proofs.restore.Tie as tie
 
 abbrev Inv-loop : tie.InvT-loop
 Inv-loop mem₀ sites plain all k₀ mem k =
-    (k ≤ 8) × (length sites ≡ 8) × (length mem ≡ length mem₀) × (mem ≡ plainOf 2 (drop k sites) (drop (k * 2) plain) mem₀)
+    (k ≤ 8) × (length sites ≡ 8) × (length mem ≡ length mem₀)
+    × (mem ≡ plainOf 2 (drop k sites) (drop (k * 2) plain) mem₀)
 
 abbrev μ-loop : tie.MeasureT-loop
 μ-loop mem₀ sites plain all k₀ mem k = k
@@ -73,7 +75,8 @@ loop-again c =
     let o = c .before .before .before .before .before .before .before .before .loop in
     let a = c .before .before .before .before .before .before .before .before .before .before .before .args in
     let l = c .before .before .lay in
-    let t = turn (now (a .sites)) (now (a .plain)) (now (a .mem)) _ (o .k - 1) (o .k) (omega arith) (omega arith) (o .inv .3) in
+    let t = turn (now (a .sites)) (now (a .plain)) (now (a .mem)) _ (o .k - 1) (o .k) (omega arith) (omega arith)
+    (o .inv .3) in
     (omega arith, o .inv .1, l .kept .0 ∙ o .inv .2, l .ensures ∙ t)
 
 same-length : tie.Need-same-length Inv-loop μ-loop

@@ -1,4 +1,5 @@
--- `memory::write` meets its contract. The loop's invariant: memory and plain bytes are those after a write of the first j bytes.
+-- `memory::write` meets its contract. The loop's invariant: memory and plain bytes are those after a write of the first
+-- j bytes.
 -- Assumes nothing.
 use mathlib.Core.Path.{_≡_, refl, ap, _∙_}
 use mathlib.Core.Logic.{⊎-elim}
@@ -80,7 +81,8 @@ loop-again c =
       ap length (w .3) ∙ simp length-set (i .5),
       w .2 ∙ i .6 ∙ mem-kept 2 s (now (a .mem)) (a .at) b (o .j) t (slot-covers 2 s at (omega arith)),
       w .3 ∙ rw (i .7, mul-comm 2 k, q)
-          (plain-stored 2 s (now (a .plain)) (a .at) (omega arith) (omega arith) b (o .j) t (slot-covers 2 s at (omega arith))),
+          (plain-stored 2 s (now (a .plain)) (a .at) (omega arith) (omega arith) b (o .j) t
+          (slot-covers 2 s at (omega arith))),
     ))
     (λ w. (
       omega arith,
@@ -90,7 +92,8 @@ loop-again c =
       ap length (w .2) ∙ simp length-set (i .4),
       ap length (w .3) ∙ i .5,
       w .2 ∙ rw (i .6) (mem-stored 2 s (now (a .mem)) (a .at) b (o .j) t (slot-none 2 s at (omega arith))),
-      w .3 ∙ i .7 ∙ plain-kept 2 s (now (a .plain)) (a .at) (omega arith) (omega arith) b (o .j) t (slot-none 2 s at (omega arith)),
+      w .3 ∙ i .7 ∙ plain-kept 2 s (now (a .plain)) (a .at) (omega arith) (omega arith) b (o .j) t
+          (slot-none 2 s at (omega arith)),
     ))
     (c .if1 .came)
 

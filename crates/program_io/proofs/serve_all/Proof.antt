@@ -6,7 +6,8 @@ use Prim.Native.Nat.{_+_, _≤_}
 use borrow.Author.Needs.{needs}
 use lib.ListN.{length}
 use lib.Seq.{length-take-le}
-use Rattle.program_run.specs.Encoding.{pidBytes, blockBytes}
+use Rattle.target.specs.Limits.{blockSize}
+use Rattle.program_run.specs.Encoding.{pidBytes}
 use Rattle.program_io.specs.Session.{BetweenTurns}
 use Rattle.program_io.proofs.Session.{is-true, between-begin, between-on, kept-few}
 use Rattle.program_io.proofs.serve_all.Statement.{statement}
@@ -14,7 +15,7 @@ use Rattle.program_io.proofs.serve_all.Tie as tie
 
 abbrev Inv-loop : tie.InvT-loop
 Inv-loop mem₀ regs₀ t₀ input₀ output₀ kept₀ turns₀ mem regs t input output kept turns =
-    BetweenTurns t mem regs input kept × (kept ≤ pidBytes + blockBytes)
+    BetweenTurns t mem regs input kept × (kept ≤ pidBytes + blockSize)
     × (length mem ≡ 64) × (length regs ≡ 272) × (length input ≡ 4096) × (length output ≡ 65536)
 
 abbrev μ-loop : tie.MeasureT-loop

@@ -59,11 +59,11 @@ returns c =
 loop-holds : tie.Need-loop-holds Inv-loop μ-loop
 loop-holds c = (begin _ _ _ (c .if1 .left), refl, refl)
 
-shared-slice-read-kind-of : tie.Need-shared-slice-read-kind-of Inv-loop μ-loop
-shared-slice-read-kind-of c = search needs
+shared-slice-read-listed-kind : tie.Need-shared-slice-read-listed-kind Inv-loop μ-loop
+shared-slice-read-listed-kind c = search needs
 
-kind-of-requires : tie.Need-kind-of-requires Inv-loop μ-loop
-kind-of-requires c κs = search needs
+listed-kind-requires : tie.Need-listed-kind-requires Inv-loop μ-loop
+listed-kind-requires c κs = search needs
 
 enum-known-byte : tie.Need-enum-known-byte Inv-loop μ-loop
 enum-known-byte c = search needs
@@ -101,7 +101,7 @@ returns-2 : tie.Need-returns-2 Inv-loop μ-loop
 returns-2 c =
     let k = c .before .before .before in
     let l = k .before .before in
-    let e = sym (k .kind-of .ensures) ∙ c .before .enum-told .given .1 in
+    let e = sym (k .listed-kind .ensures) ∙ c .before .enum-told .given .1 in
     rw (c .ended2 .ensures)
     (with-book _ _ _ _ _ _ _ (out-other _ _ _ _ _ _ _ (l .before .loop .inv .0) (l .loop-test .taken) e))
 
@@ -131,7 +131,7 @@ returns-3 c =
     let b = c .before .before in
     let k = b .before .before .before .before in
     let o = k .before .before .before .loop in
-    let e = sym (k .kind-of .ensures) ∙ b .before .before .byte .given .1 in
+    let e = sym (k .listed-kind .ensures) ∙ b .before .before .byte .given .1 in
     rw (c .ended3 .ensures)
     (with-book _ _ _ _ _ _ _
     (out-cut _ _ _ _ _ _ _ (o .inv .0) (k .before .before .loop-test .taken) _ e _ (b .body-of .ensures)
@@ -190,7 +190,7 @@ loop-again c =
     let f = b .before .before .before .before in
     let o = f .before .before .before .loop in (
       go-on _ _ _ _ _ _ _ (o .inv .0) (f .before .before .loop-test .taken) _
-          (sym (f .kind-of .ensures) ∙ b .before .before .byte .given .1) _ (b .body-of .ensures)
+          (sym (f .listed-kind .ensures) ∙ b .before .before .byte .given .1) _ (b .body-of .ensures)
           (omega (arith, whole e .0)) _ _ _ _ (k .step .ensures),
       c .before .before .before .before .before .before .before .mem .given ∙ o .inv .1,
       c .before .before .before .before .before .regs .given ∙ o .inv .2,
@@ -222,8 +222,8 @@ run-spec =
     ended-requires
     returns
     loop-holds
-    shared-slice-read-kind-of
-    kind-of-requires
+    shared-slice-read-listed-kind
+    listed-kind-requires
     enum-known-byte
     enum-told
     slice-write-output

@@ -6,7 +6,7 @@ use native.Mathlib.Omega.{arith}
 use denote.Ref.{now}
 use borrow.Author.Needs.{needs}
 use lib.ListN.{length}
-use Rattle.program_run.specs.declared.Kind.the-variants.{Trap, Schedule, State}
+use Rattle.step.specs.declared.StepKind.the-variants.{Trap, Schedule, State}
 use Rattle.program_run.specs.Encoding.{bodyOf}
 use Rattle.program_run.proofs.Steps.{length-known, is-request, is-trap, is-schedule, is-state, is-restart}
 use Rattle.program_run.proofs.Steps.{steps-answer}

@@ -1,4 +1,5 @@
--- `request_condbreak::add` meets its contract: what `condition::add` answers chooses the arm of the definition. Assumes nothing.
+-- `request_condbreak::add` meets its contract: what `condition::add` answers chooses the arm of the definition. Assumes
+-- nothing.
 use mathlib.Core.Path.{_≡_, ap, _∙_}
 use mathlib.Core.List.{List}
 use Prim.Native.Nat.{ℕ}
@@ -29,10 +30,12 @@ decided : (a : tie.After-add) (r : Room) → a .add .result .room ≡ r → (mem
     → joined (world (start a .args .t) mem regs) (addOf (start a .args .t .table .draft) (element (start a))) r
     ≡ addElement (world (start a .args .t) mem regs) (element (start a))
 decided a r e mem regs =
-    add-joined (world (start a .args .t) mem regs) (element (start a)) r (a .before .if1 .left) (rw (a .add .ensures) at e)
+    add-joined (world (start a .args .t) mem regs) (element (start a)) r (a .before .if1 .left)
+    (rw (a .add .ensures) at e)
 
 fitted : (a : tie.After-add) → a .add .result .room ≡ Fits
-    → grown (start a .args .t .table .draft) (element (start a)) ≡ addOf (start a .args .t .table .draft) (element (start a)) .draft
+    → grown (start a .args .t .table .draft) (element (start a)) ≡ addOf (start a .args .t .table .draft)
+    (element (start a)) .draft
 fitted a e = fits-grown (start a .args .t .table .draft) (element (start a)) (rw (a .add .ensures) at e)
 
 fail-requires : tie.Need-fail-requires
@@ -69,7 +72,8 @@ returns-2 c =
     let t = c .before in
     let a = t .before .before in
     λ mem regs. c .done .ensures _ mem regs
-    ∙ ap (λ (d : Draft). replied Rcondbreak (world (withDraft (start a .args .t) d) mem regs)) (fitted a (t .enum-told .given .1))
+    ∙ ap (λ (d : Draft). replied Rcondbreak (world (withDraft (start a .args .t) d) mem regs))
+    (fitted a (t .enum-told .given .1))
     ∙ decided a Fits (t .enum-told .given .1) mem regs
 
 returns-3 : tie.Need-returns-3

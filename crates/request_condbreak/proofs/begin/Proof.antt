@@ -1,4 +1,5 @@
--- `request_condbreak::begin` meets its contract: the ids of the scan are the table's, so that each test decides as the definition's does.
+-- `request_condbreak::begin` meets its contract: the ids of the scan are the table's, so that each test decides as the
+-- definition's does.
 -- Assumes nothing.
 use mathlib.Core.Path.{_≡_, sym, ap, _∙_}
 use mathlib.Core.Bool.{cond}
@@ -29,14 +30,22 @@ module _ (t : Target) (mem regs : List ℕ) (val : ℕ) (eight : length (t .tabl
   -- the id is in use
   used : entryOf (t .table .entries) val < 8 → failed Inval (world t mem regs) ≡ beginCondition (world t mem regs) val
   unfolding beginCondition
-  used h = rw (le-ltb 255 val small, lt-ltb (entryOf (t .table .entries) val) (length (t .table .entries)) (omega arith))
+  used h = rw (
+    le-ltb 255 val small,
+    lt-ltb (entryOf (t .table .entries) val) (length (t .table .entries))
+        (omega arith),
+  )
 
   module _ (new : 8 ≤ entryOf (t .table .entries) val) where
     unused : beginCondition (world t mem regs) val
         ≡ cond (leb (length (t .table .entries)) (firstFree (t .table .entries)))
         (failed Count (world t mem regs)) (replied Rcondbreak (world (withDraft t (begun val)) mem regs))
     unfolding beginCondition
-    unused = rw (le-ltb 255 val small, le-ltb (entryOf (t .table .entries) val) (length (t .table .entries)) (omega arith))
+    unused = rw (
+      le-ltb 255 val small,
+      le-ltb (entryOf (t .table .entries) val) (length (t .table .entries))
+          (omega arith),
+    )
 
     -- no entry is free
     full : firstFree (t .table .entries) ≡ 8 → failed Count (world t mem regs) ≡ beginCondition (world t mem regs) val
@@ -66,7 +75,8 @@ eight-at s = eight-entries (s .args .t) _ (s .good .0)
 free : (f : tie.After-entry-of2) → f .entry-of2 .result ≡ firstFree (whole f .args .t .table .entries)
 free f =
     let s = whole f in
-    f .entry-of2 .ensures ∙ ap (firstOf (eqb 256)) (s .pre) ∙ first-free (s .args .t .table .entries) (target-small (s .args .t) _ (s .good .0))
+    f .entry-of2 .ensures ∙ ap (firstOf (eqb 256)) (s .pre)
+    ∙ first-free (s .args .t .table .entries) (target-small (s .args .t) _ (s .good .0))
 
 fail-requires : tie.Need-fail-requires
 fail-requires c κs = search needs
@@ -85,7 +95,8 @@ returns-2 : tie.Need-returns-2
 returns-2 c =
     let f = c .before .before in
     let s = start f in
-    λ mem regs. c .fail2 .ensures _ mem regs ∙ used (s .args .t) mem regs (s .args .val) (eight-at s) (omega arith) (omega (arith, found f))
+    λ mem regs. c .fail2 .ensures _ mem regs ∙ used (s .args .t) mem regs (s .args .val) (eight-at s) (omega arith)
+    (omega (arith, found f))
 
 entry-of-requires-2 : tie.Need-entry-of-requires-2
 entry-of-requires-2 c κs = search needs
@@ -100,7 +111,8 @@ returns-3 c =
     let s = start f in
     λ mem regs.
     c .fail3 .ensures _ mem regs
-    ∙ full (s .args .t) mem regs (s .args .val) (eight-at s) (omega arith) (omega (arith, found f)) (omega (arith, free g))
+    ∙ full (s .args .t) mem regs (s .args .val) (eight-at s) (omega arith) (omega (arith, found f))
+    (omega (arith, free g))
 
 cast-id : tie.Need-cast-id
 cast-id c = search needs
@@ -117,7 +129,8 @@ returns-4 c =
     let s = start f in
     λ mem regs.
     c .done .ensures (s .args .t) mem regs
-    ∙ begins (s .args .t) mem regs (s .args .val) (eight-at s) (omega arith) (omega (arith, found f)) (λ h. e .if3 .left (omega (arith, free g)))
+    ∙ begins (s .args .t) mem regs (s .args .val) (eight-at s) (omega arith) (omega (arith, found f))
+    (λ h. e .if3 .left (omega (arith, free g)))
 
 pub begin-spec : {M : Type 1} → statement M
 begin-spec =

@@ -1,4 +1,5 @@
--- `request_condbreak::delete` meets its contract: the ids of the scan are the table's, and an entry that is found is used. Assumes nothing.
+-- `request_condbreak::delete` meets its contract: the ids of the scan are the table's, and an entry that is found is
+-- used. Assumes nothing.
 use mathlib.Core.Path.{_≡_, ap, _∙_}
 use native.Mathlib.Omega.{arith}
 use borrow.Author.Needs.{needs}

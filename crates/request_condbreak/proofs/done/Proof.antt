@@ -1,4 +1,5 @@
--- `request_condbreak::done` meets its contract: the change with no plain bytes beside it, and the reply, are the definition's. Assumes nothing.
+-- `request_condbreak::done` meets its contract: the change with no plain bytes beside it, and the reply, are the
+-- definition's. Assumes nothing.
 use borrow.Author.Needs.{needs}
 use Rattle.rules.specs.Outcome.{replied}
 use Rattle.request_condbreak.proofs.done.Statement.{statement}

@@ -1,4 +1,5 @@
--- `request_condbreak::fail` meets its contract: the record's one change and the reply are the definition's. Assumes nothing.
+-- `request_condbreak::fail` meets its contract: the record's one change and the reply are the definition's. Assumes
+-- nothing.
 use borrow.Author.Needs.{needs}
 use Rattle.step_effect.specs.Change.{applied}
 use Rattle.rules.specs.Condition.{dropped, failed}

@@ -1,4 +1,5 @@
--- `request_condbreak::plant` meets its contract: the entry that is stored, the trap that is laid and the reply are the definition's.
+-- `request_condbreak::plant` meets its contract: the entry that is stored, the trap that is laid and the reply are the
+-- definition's.
 -- Assumes nothing.
 use mathlib.Core.Path.{_∙_}
 use borrow.Author.Needs.{needs}

@@ -64,7 +64,8 @@ unfolding setBreakpoint wellFormed
 returns-3 c =
     let d = c .before .before in
     let e = d .before .before in
-    rw (held (e .before), free e, ne-eqb _ 1 (λ h. c .before .if3 .taken (d .depth-of .ensures .0 ∙ h))) (c .fail3 .ensures _ _ _)
+    rw (held (e .before), free e, ne-eqb _ 1 (λ h. c .before .if3 .taken (d .depth-of .ensures .0 ∙ h)))
+    (c .fail3 .ensures _ _ _)
 
 plant-requires : tie.Need-plant-requires
 plant-requires c κs =

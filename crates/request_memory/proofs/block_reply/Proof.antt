@@ -33,7 +33,12 @@ unfolding blockReply
 returns-2 c =
     let p = c .before .before in
     let e = p .before .before in
-    rw (e .enum-told .given .1, c .rmget .ensures, p .copy .ensures, copied-zeros (now (e .before .before .before .args .part)) 9)
+    rw (
+      e .enum-told .given .1,
+      c .rmget .ensures,
+      p .copy .ensures,
+      copied-zeros (now (e .before .before .before .args .part)) 9,
+    )
 
 pub block-reply-spec : {M : Type 1} → statement M
 block-reply-spec =

@@ -1,5 +1,5 @@
--- `request_memory::mget` meets its contract: nothing is read where n is 0, else the place that the address names decides of which of the
--- two slices the stretch is a part, and how it is read. Assumes nothing.
+-- `request_memory::mget` meets its contract: nothing is read where n is 0, else the place that the address names
+-- decides of which of the two slices the stretch is a part, and how it is read. Assumes nothing.
 use mathlib.Core.Path.{_≡_, refl, sym, ap, _∙_}
 use mathlib.Core.List.{List}
 use Prim.Native.Nat.{ℕ}
@@ -14,7 +14,8 @@ use Rattle.memory.proofs.Parts.{named, within-registers, within-window, read-wi
 use Rattle.rules.specs.Outcome.{World, world}
 use Rattle.rules.specs.Request.{gotFrom}
 use Rattle.request_memory.specs.Access.{blockPart}
-use Rattle.request_memory.proofs.Laws.{ready-listed, block-within, refuses, got-none, got-registers, got-window, got-from}
+use Rattle.request_memory.proofs.Laws.{ready-listed, block-within, refuses, got-none, got-registers, got-window}
+use Rattle.request_memory.proofs.Laws.{got-from}
 use Rattle.request_memory.proofs.mget.Statement.{statement}
 use Rattle.request_memory.proofs.mget.Tie as tie
 
@@ -34,17 +35,20 @@ module _ (z : tie.After-stretch) (q : Place) (e : place-at z .place-of .result �
   place-is = named _ _ _ _ _ _ (place-at z .place-of .ensures) e
 
   place-in : let a = start z .args in placeOf (a .t .base) (length (now (a .mem))) (a .addr) (a .n) ≡ q
-  place-in = let a = start z .args in ap (λ (n : ℕ). placeOf (a .t .base) n (a .addr) (a .n)) (start z .pre .memory) ∙ place-is
+  place-in = let a = start z .args in ap (λ (n : ℕ). placeOf (a .t .base) n (a .addr) (a .n)) (start z .pre .memory)
+      ∙ place-is
 
 -- the stretch that it names
 stretch-is : (z : tie.After-stretch) → let a = start z .args in
     now (z .stretch .result)
-    ≡ stretchOf (placeOf (a .t .base) (length (now (a .mem))) (a .addr) (a .n)) (blockPart (z .before .before .block-of .result) (now (a .regs)))
+    ≡ stretchOf (placeOf (a .t .base) (length (now (a .mem))) (a .addr) (a .n))
+    (blockPart (z .before .before .block-of .result) (now (a .regs)))
     (now (a .mem)) (a .t .base) (a .addr) (a .n)
 stretch-is z =
     let a = start z .args in
     z .stretch .ensures
-    ∙ ap (λ (b : List ℕ). stretchOf (placeOf (a .t .base) (length (now (a .mem))) (a .addr) (a .n)) b (now (a .mem)) (a .t .base) (a .addr) (a .n))
+    ∙ ap (λ (b : List ℕ). stretchOf (placeOf (a .t .base) (length (now (a .mem))) (a .addr) (a .n)) b (now (a .mem))
+    (a .t .base) (a .addr) (a .n))
     (z .before .block-part .ensures)
 
 rmget-requires : tie.Need-rmget-requires

@@ -1,4 +1,5 @@
--- `request_memory::mput` meets its contract: nothing is written where n is 0, else the place that the address names decides. Assumes nothing.
+-- `request_memory::mput` meets its contract: nothing is written where n is 0, else the place that the address names
+-- decides. Assumes nothing.
 use mathlib.Core.Path.{_≡_, sym, _∙_}
 use Prim.Native.Nat.{_+_, _≤_}
 use native.Mathlib.Omega.{arith}
@@ -13,7 +14,8 @@ use Rattle.step_effect.specs.Change.{applied}
 use Rattle.rules.specs.Outcome.{world, Outcome}
 use Rattle.rules.specs.Request.{putTo, mput}
 use Rattle.wire.specs.Message.{bytes4}
-use Rattle.request_memory.proofs.Laws.{ready-listed, refuses, put-window, put-same, sixteen, length-after, put-none, put-to}
+use Rattle.request_memory.proofs.Laws.{ready-listed, refuses, put-window, put-same, sixteen, length-after}
+use Rattle.request_memory.proofs.Laws.{put-none, put-to}
 use Rattle.request_memory.proofs.mput.Statement.{statement}
 use Rattle.request_memory.proofs.mput.Tie as tie
 
@@ -65,7 +67,8 @@ inside : (c : tie.After-enum-told2)
 inside c =
     let k = c .before .before in
     let a = k .before .before .before .before .before .args in
-    within-window (a .t .base) (a .t .size) (a .addr) (a .n) (named _ _ _ _ _ _ (k .place-of .ensures) (c .enum-told2 .given .1))
+    within-window (a .t .base) (a .t .size) (a .addr) (a .n)
+    (named _ _ _ _ _ _ (k .place-of .ensures) (c .enum-told2 .given .1))
 
 sub-at : tie.Need-sub-at
 sub-at c = inside (c .before .before .before) .0
@@ -103,7 +106,8 @@ to-window : (p : tie.After-write) → let a = start p .args in
 to-window p x h =
     let e = p .before .before .before .before .before .before .before .before in
     let k = e .before .before in
-    put-to _ _ _ _ (k .before .if1 .left) Window (named _ _ _ _ _ _ (k .place-of .ensures) (e .enum-told2 .given .1)) x h
+    put-to _ _ _ _ (k .before .if1 .left) Window (named _ _ _ _ _ _ (k .place-of .ensures) (e .enum-told2 .given .1)) x
+    h
 
 plain-sixteen : (p : tie.After-write) → 16 ≡ length (start p .args .s .plain)
 plain-sixteen p = let s = start p in sixteen (s .args .t) _ _ _ _ (s .good .0) (s .pre .0)
@@ -172,7 +176,8 @@ returns-4 c =
     let s = start p in
     let a = s .args in
     to-window p _
-    (put-window (world (a .t) (now (a .mem)) (now (a .regs))) (a .addr) _ _ _ (s .pre .0 .sites) (s .pre .0 .plain) _ _ _
+    (put-window (world (a .t) (now (a .mem)) (now (a .regs))) (a .addr) _ _ _ (s .pre .0 .sites) (s .pre .0 .plain) _ _
+    _
     (p .write .ensures .0) (p .write .ensures .1) (replied p .bytes-of .ensures))
 
 returns-5 : tie.Need-returns-5
@@ -181,7 +186,8 @@ returns-5 c =
     let k = c .before .before .before .before in
     rw (c .with4 .ensures)
     (put-to _ _ _ _ (k .before .if1 .left) _
-    (named _ _ _ _ _ _ (k .place-of .ensures) (c .before .before .enum-told3 .given .1)) _ (refuses _ _ _ (c .before .rerr .ensures)))
+    (named _ _ _ _ _ _ (k .place-of .ensures) (c .before .before .enum-told3 .given .1)) _
+    (refuses _ _ _ (c .before .rerr .ensures)))
 
 pub mput-spec : {M : Type 1} → statement M
 mput-spec =

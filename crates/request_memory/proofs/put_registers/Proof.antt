@@ -1,5 +1,5 @@
--- `request_memory::put_registers` meets its contract: register zero and a block that may not be used are refused, else the bytes are written
--- over those of the block. Assumes nothing.
+-- `request_memory::put_registers` meets its contract: register zero and a block that may not be used are refused, else
+-- the bytes are written over those of the block. Assumes nothing.
 use mathlib.Core.Path.{_∙_}
 use Prim.Native.Nat.{_+_, _*_, _≤_}
 use native.Mathlib.Omega.{arith}
@@ -49,7 +49,11 @@ fits : (c : tie.After-known-told2)
 fits c =
     let k = c .before .before .before in
     let s = k .before .before .before .before in
-    omega (arith, block-within (s .args .t) (now (s .args .regs)) (s .pre .0) _ _ (k .block-of .ensures) (c .before .block2 .given .1))
+    omega (
+      arith,
+      block-within
+          (s .args .t) (now (s .args .regs)) (s .pre .0) _ _ (k .block-of .ensures) (c .before .block2 .given .1),
+    )
 
 mul-from : tie.Need-mul-from
 mul-from c = omega (arith, fits c)
@@ -85,9 +89,11 @@ returns-3 c mem =
     let b = k .before .before .before in
     let a = b .before .before .before .before .args in
     let i = k .before .block2 .given .0 .0 in
-    put-block (world (a .t) mem (now (a .regs))) (a .addr) (now (a .bytes)) (b .before .if1 .left) _ i (b .block-of .ensures)
+    put-block (world (a .t) mem (now (a .regs))) (a .addr) (now (a .bytes)) (b .before .if1 .left) _ i
+    (b .block-of .ensures)
     (k .before .block2 .given .1) _ _
-    (put-copied (now (a .regs)) (now (a .bytes)) _ (136 * i + a .addr) (fits k) (r .copy .ensures)) (c .bytes-of .ensures)
+    (put-copied (now (a .regs)) (now (a .bytes)) _ (136 * i + a .addr) (fits k) (r .copy .ensures))
+    (c .bytes-of .ensures)
 
 pub put-registers-spec : {M : Type 1} → statement M
 put-registers-spec =

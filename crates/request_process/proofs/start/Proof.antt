@@ -1,5 +1,5 @@
--- `request_process::start` meets its contract: what is found decides as whether the pid is listed, its process Stopped, and a breakpoint
--- at its saved pc, whose entry is used. Assumes nothing.
+-- `request_process::start` meets its contract: what is found decides as whether the pid is listed, its process Stopped,
+-- and a breakpoint at its saved pc, whose entry is used. Assumes nothing.
 use mathlib.Core.Path.{_≡_, _∙_}
 use Prim.Native.Nat.{_+_, _*_, _<_, _≤_}
 use native.Mathlib.Omega.{arith}
@@ -122,7 +122,8 @@ returns-4 c =
     let k = b .before .before in
     replies _ _ _ _ (c .with3 .ensures) (b .bytes-of .ensures)
     ∙ start-one _ _ _ (search-of k .find .ensures) _ _ (k .found .given .1) (r .if1 .left) (eight (begin k))
-    _ _ (a .before .word-at .ensures ∙ saved-pc _ _) (a .breakpoint-at .ensures) (m .before .before .if2 .left) _ (m .put-back .ensures _)
+    _ _ (a .before .word-at .ensures ∙ saved-pc _ _) (a .breakpoint-at .ensures) (m .before .before .if2 .left) _
+    (m .put-back .ensures _)
 
 pub start-spec : {M : Type 1} → statement M
 start-spec =

@@ -1,4 +1,5 @@
--- `request_process::stop` meets its contract: what is found decides as whether the pid is listed, and its process Stopped.
+-- `request_process::stop` meets its contract: what is found decides as whether the pid is listed, and its process
+-- Stopped.
 -- Assumes nothing.
 use mathlib.Core.Path.{_∙_}
 use borrow.Author.Needs.{needs}

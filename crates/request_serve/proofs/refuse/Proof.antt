@@ -1,4 +1,5 @@
--- `request_serve::refuse` meets its contract: the bytes decide whether the condition in hand is dropped. Assumes nothing.
+-- `request_serve::refuse` meets its contract: the bytes decide whether the condition in hand is dropped. Assumes
+-- nothing.
 use mathlib.Core.Path.{sym, _∙_}
 use borrow.Author.Needs.{needs}
 use Rattle.request_process.proofs.Laws.{replies}
@@ -31,7 +32,8 @@ unfolding refusedBy error applied
 returns-2 c =
     let b = c .before in
     let f = b .before in
-    λ t mem regs. rw (sym (f .before .drops-draft .ensures) ∙ f .if1 .left) (replies _ _ _ _ (c .with .ensures) (b .bytes-of .ensures))
+    λ t mem regs. rw (sym (f .before .drops-draft .ensures) ∙ f .if1 .left)
+    (replies _ _ _ _ (c .with .ensures) (b .bytes-of .ensures))
 
 pub refuse-spec : {M : Type 1} → statement M
 refuse-spec = tie.close (tie.spec drops-draft-requires fail-requires returns bytes-of-requires with-requires returns-2)

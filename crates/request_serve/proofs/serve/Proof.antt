@@ -1,5 +1,5 @@
--- `request_serve::serve` meets its contract: each request calls the function whose contract is the definition's line for it, and
--- every other message is a reply, refused. Assumes nothing.
+-- `request_serve::serve` meets its contract: each request calls the function whose contract is the definition's line
+-- for it, and every other message is a reply, refused. Assumes nothing.
 use mathlib.Core.Path.{_≡_, refl, sym, ap, _∙_}
 use mathlib.Core.Bool.{true}
 use mathlib.Core.List.{[], _∷_}
@@ -20,7 +20,8 @@ use Rattle.wire.specs.Message.{isPut, isMessage}
 use Rattle.wire.specs.declared.Data4.{Data4}
 use Rattle.wire.specs.declared.Message.{Message}
 use Rattle.wire.specs.declared.Message.the-variants.{Tmget, Tmput, Tproc, Tstatus, Trnote, Tstop, Tstart, Tcondbreak}
-use Rattle.wire.specs.declared.Message.the-variants.{Rerr, Rmget, Rmput, Rproc, Rstatus, Rrnote, Rstop, Rstart, Rcondbreak}
+use Rattle.wire.specs.declared.Message.the-variants.{Rerr, Rmget, Rmput, Rproc, Rstatus, Rrnote, Rstop, Rstart}
+use Rattle.wire.specs.declared.Message.the-variants.{Rcondbreak}
 use Rattle.wire_text.specs.declared.Reason.the-variants.{Inval}
 use Rattle.wire.proofs.Message.{the-type}
 use Rattle.request_serve.proofs.serve.Statement.{statement}

@@ -1,4 +1,5 @@
--- `step::request` meets its contract: what the ten bytes ask is served or refused, and its bytes are the reply. Assumes nothing.
+-- `step::request` meets its contract: what the ten bytes ask is served or refused, and its bytes are the reply. Assumes
+-- nothing.
 use mathlib.Core.Path.{sym, _∙_}
 use borrow.Author.Needs.{needs}
 use Rattle.rules.specs.Request.{requestBy}
@@ -72,7 +73,8 @@ returns-3 : tie.Need-returns-3
 unfolding requestBy
 returns-3 c =
     let t = c .before in
-    asked _ _ _ _ (sym (t .enum-told .given .1) ∙ t .before .before .parse .ensures) _ (refuses _ _ _ 2 (c .keeping .ensures))
+    asked _ _ _ _ (sym (t .enum-told .given .1) ∙ t .before .before .parse .ensures) _
+    (refuses _ _ _ 2 (c .keeping .ensures))
 
 pub request-spec : {M : Type 1} → statement M
 request-spec =

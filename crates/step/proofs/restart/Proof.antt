@@ -37,7 +37,8 @@ returns c =
     let s = o .before .before .before .before .before .before .before .before .before in
     let ten : length (m .bytes-of .result) ≡ 10 = search needs in
     restart-as _ _ (s .pre .0) _ _ _ (c .changing .ensures) (o .restore .ensures)
-    (k .copy .ensures ∙ copy-whole (now (s .args .reply)) (m .bytes-of .result) (s .pre .1 ∙ sym ten) ∙ m .bytes-of .ensures)
+    (k .copy .ensures ∙ copy-whole (now (s .args .reply)) (m .bytes-of .result) (s .pre .1 ∙ sym ten)
+    ∙ m .bytes-of .ensures)
 
 pub restart-spec : {M : Type 1} → statement M
 restart-spec =

@@ -1,4 +1,5 @@
--- `step::step` meets its contract: each refusal is the definition's, in its order, then each arm is the step of its kind. Assumes nothing.
+-- `step::step` meets its contract: each refusal is the definition's, in its order, then each arm is the step of its
+-- kind. Assumes nothing.
 use mathlib.Core.Path.{_≡_, _∙_}
 use mathlib.Core.Bool.{true}
 use borrow.Author.Needs.{needs}
@@ -11,7 +12,8 @@ use Rattle.rules.specs.Outcome.{world}
 use Rattle.step_effect.specs.Ready.{Ready}
 use Rattle.step.specs.Kinds.{lentRight}
 use Rattle.rules.specs.Step.{sized}
-use Rattle.step.proofs.Laws.{ready-by, lent-request, lent-trap, lent-schedule, lent-restart, wrong-size, wrong-lent, unfit}
+use Rattle.step.proofs.Laws.{ready-by, lent-request, lent-trap, lent-schedule, lent-restart, wrong-size}
+use Rattle.step.proofs.Laws.{wrong-lent, unfit}
 use Rattle.step.proofs.Laws.{leaves, taken}
 use Rattle.step.proofs.step.Statement.{statement}
 use Rattle.step.proofs.step.Tie as tie
@@ -25,11 +27,13 @@ abbrev right-sized : tie.After-struct-known → tie.Else1
 right-sized k = k .before .before .before .before .before
 
 lent : (k : tie.After-struct-known)
-    → let a = start (right-sized k .before) .args in lentRight (a .kind) (length (now (a .input))) (length (now (a .reply))) ≡ true
+    → let a = start (right-sized k .before) .args in lentRight (a .kind) (length (now (a .input)))
+    (length (now (a .reply))) ≡ true
 lent k = let l = k .before .before .before in answered-yes _ _ (l .before .lent-right .ensures) (l .if2 .left)
 
 ready : (q : tie.Else3)
-    → let a = start (right-sized (q .before) .before) .args in Ready house (a .t) (q .before .before .check .result) (now (a .mem)) (now (a .regs))
+    → let a = start (right-sized (q .before) .before) .args in Ready house (a .t) (q .before .before .check .result)
+    (now (a .mem)) (now (a .regs))
 unfolding sized
 ready q =
     let z = right-sized (q .before) in
@@ -75,7 +79,8 @@ returns-3 c =
     let k = c .before .before in
     let z = right-sized k in
     refuses _ _ _ 3 (c .keeping3 .ensures)
-    ∙ unfit _ _ _ _ _ _ (lent k) _ (z .before .sizes-right .ensures) (z .if1 .left) _ (k .before .check .ensures) (c .before .if3 .taken)
+    ∙ unfit _ _ _ _ _ _ (lent k) _ (z .before .sizes-right .ensures) (z .if1 .left) _ (k .before .check .ensures)
+    (c .before .if3 .taken)
 
 enum-told : tie.Need-enum-told
 enum-told c = search needs
@@ -99,8 +104,12 @@ enum-told-3 c = search needs
 schedule-requires : tie.Need-schedule-requires
 schedule-requires c κs =
     let m = c .before in
-    let ok = ready (m .before .before) in
-    (fit-few house _ _ (ok .fit), ok .registers, lent-schedule _ _ _ (lent (m .before .before .before)) (m .enum-told3 .given .1))
+    let ok = ready (m .before .before) in (
+      fit-few house _ _ (ok .fit),
+      ok .registers,
+      lent-schedule _ _ _ (lent (m .before .before .before))
+          (m .enum-told3 .given .1),
+    )
 
 enum-told-4 : tie.Need-enum-told-4
 enum-told-4 c = search needs
@@ -129,7 +138,8 @@ returns-4 : tie.Need-returns-4
 returns-4 c =
     let r = c .before .before .before .before .before .before in
     let m = r .before .before .before .before in
-    r .request .ensures ∙ taken _ _ _ _ _ _ (lent (m .before .before .before)) _ (ready (m .before .before)) _ (m .enum-told .given .1)
+    r .request .ensures ∙ taken _ _ _ _ _ _ (lent (m .before .before .before)) _ (ready (m .before .before)) _
+    (m .enum-told .given .1)
 
 same-length-5 : tie.Need-same-length-5
 same-length-5 c = search needs
@@ -141,7 +151,8 @@ returns-5 : tie.Need-returns-5
 returns-5 c =
     let r = c .before .before in
     let m = r .before .before .before in
-    leaves _ _ _ _ _ _ (r .trap .ensures) ∙ taken _ _ _ _ _ _ (lent (m .before .before .before)) _ (ready (m .before .before)) _ (m .enum-told2 .given .1)
+    leaves _ _ _ _ _ _ (r .trap .ensures) ∙ taken _ _ _ _ _ _ (lent (m .before .before .before)) _
+    (ready (m .before .before)) _ (m .enum-told2 .given .1)
 
 same-length-7 : tie.Need-same-length-7
 same-length-7 c = search needs
@@ -178,7 +189,8 @@ returns-8 : tie.Need-returns-8
 returns-8 c =
     let r = c .before .before .before .before in
     let m = r .before .before .before .before in
-    r .restart .ensures ∙ taken _ _ _ _ _ _ (lent (m .before .before .before)) _ (ready (m .before .before)) _ (m .enum-told5 .given .1)
+    r .restart .ensures ∙ taken _ _ _ _ _ _ (lent (m .before .before .before)) _ (ready (m .before .before)) _
+    (m .enum-told5 .given .1)
 
 pub step-spec : {M : Type 1} → statement M
 step-spec =

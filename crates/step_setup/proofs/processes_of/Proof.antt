@@ -1,4 +1,5 @@
--- `step_setup::processes_of` meets its contract. The loop's invariant: the first i processes are begun, the others none. Assumes nothing.
+-- `step_setup::processes_of` meets its contract. The loop's invariant: the first i processes are begun, the others
+-- none. Assumes nothing.
 use mathlib.Core.Path.{_≡_, refl, _∙_}
 use Prim.Native.Nat.{_≤_, _-_}
 use native.Mathlib.Omega.{arith}

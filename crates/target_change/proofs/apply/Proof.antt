@@ -25,7 +25,13 @@ returns c =
     let u = e .before in
     let s = u .before in
     let p = s .before in
-    rw (p .processes-after .ensures, s .selected-after .ensures, u .current-after .ensures, e .entries-after .ensures, c .draft-after .ensures)
+    rw (
+      p .processes-after .ensures,
+      s .selected-after .ensures,
+      u .current-after .ensures,
+      e .entries-after .ensures,
+      c .draft-after .ensures,
+    )
     (of-parts _ _ _)
 
 pub apply-spec : {M : Type 1} → statement M

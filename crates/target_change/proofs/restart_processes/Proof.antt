@@ -1,4 +1,5 @@
--- `target_change::restart_processes` meets its contract. The loop's invariant: the first i processes are restarted, the rest as they were. Assumes nothing.
+-- `target_change::restart_processes` meets its contract. The loop's invariant: the first i processes are restarted, the
+-- rest as they were. Assumes nothing.
 use mathlib.Core.Logic.{⊎-elim}
 use mathlib.Core.Path.{_≡_, refl, ap, _∙_}
 use Prim.Native.Nat.{_≤_, _-_}
@@ -55,16 +56,19 @@ loop-again c =
       omega arith,
       o .inv .2,
       restart-more ps (o .qs) (c .before .if2 .qs) (o .i) (omega arith) (o .inv .3)
-          (⊎-elim (λ w. made-ready (o .qs) (o .i) _ (w .0 .taken) (w .2)) (λ w. kept-state (o .qs) (o .i) _ (w .0 .left) (w .1)) (c .before .if2 .came)),
+          (⊎-elim (λ w. made-ready (o .qs) (o .i) _ (w .0 .taken) (w .2))
+          (λ w. kept-state (o .qs) (o .i) _ (w .0 .left) (w .1)) (c .before .if2 .came)),
     )
 
 returns : tie.Need-returns Inv-loop μ-loop
 unfolding applied holding processesAfter
-returns c = let o = c .before .loop in o .inv .3 ∙ front-all restarted (c .before .before .args .ps) (o .i) (c .before .before .args .count) (omega arith) (omega arith)
+returns c = let o = c .before .loop in o .inv .3 ∙ front-all restarted (c .before .before .args .ps) (o .i)
+    (c .before .before .args .count) (omega arith) (omega arith)
 
 returns-2 : tie.Need-returns-2 Inv-loop μ-loop
 unfolding applied holding processesAfter
-returns-2 c = let o = c .before .before .loop in o .inv .3 ∙ ap (front restarted (c .before .before .before .args .ps)) (c .if1 .taken)
+returns-2 c = let o = c .before .before .loop in o .inv .3 ∙ ap (front restarted (c .before .before .before .args .ps))
+    (c .if1 .taken)
 
 pub restart-processes-spec : {M : Type 1} → statement M
 restart-processes-spec =

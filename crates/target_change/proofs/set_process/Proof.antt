@@ -1,4 +1,5 @@
--- `target_change::set_process` meets its contract: the second store stands over the first, and past the processes there is none. Assumes nothing.
+-- `target_change::set_process` meets its contract: the second store stands over the first, and past the processes there
+-- is none. Assumes nothing.
 use native.Mathlib.Omega.{arith}
 use borrow.Author.Needs.{needs}
 use Rattle.rules.specs.Record.{withState}

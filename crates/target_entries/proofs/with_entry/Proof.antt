@@ -1,4 +1,5 @@
--- `target_entries::with_entry` meets its contract: the entry is stored, and past the entries there is nothing to store to. Assumes nothing.
+-- `target_entries::with_entry` meets its contract: the entry is stored, and past the entries there is nothing to store
+-- to. Assumes nothing.
 use mathlib.Core.Path.{sym}
 use native.Mathlib.Omega.{arith}
 use borrow.Author.Needs.{needs}

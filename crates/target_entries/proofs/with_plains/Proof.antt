@@ -1,5 +1,5 @@
--- `target_entries::with_plains` meets its contract. The loop's invariant: entries before k are as the definition has them, those from k on as
--- they were. Assumes nothing.
+-- `target_entries::with_plains` meets its contract. The loop's invariant: entries before k are as the definition has
+-- them, those from k on as they were. Assumes nothing.
 use mathlib.Core.Logic.{⊎-elim}
 use mathlib.Core.Path.{_≡_, refl, sym, ap, _∙_}
 use Prim.Native.Nat.{_+_, _*_, _-_, _≤_, _<_}
@@ -9,7 +9,8 @@ use lib.ListN.{length, getD, take, drop, length-set}
 use Rattle.rules.specs.Request.{withPlains}
 use Rattle.target.specs.Fresh.{noEntry}
 use Rattle.target.specs.declared.Entry.{Entry}
-use Rattle.target_entries.proofs.Laws.{Taken, entry-plain, put-in, there-already, still, plains-more, plains-rest, plains-done}
+use Rattle.target_entries.proofs.Laws.{Taken, entry-plain, put-in, there-already, still, plains-more}
+use Rattle.target_entries.proofs.Laws.{plains-rest, plains-done}
 use Rattle.target_entries.proofs.with_plains.Statement.{statement}
 use Rattle.target_entries.proofs.with_plains.Tie as tie
 
@@ -96,7 +97,8 @@ taken-at c =
     ∙ entry-plain 8 (s .args .es) _ (o .k) (s .good .0) h in
     ⊎-elim {C = TakenAt c} (λ w. put-in (o .fs) (o .k) _ _ _ two (w .2))
     (λ w. ⊎-elim {C = TakenAt c}
-    (λ v. there-already (o .fs) (o .k) _ _ _ two (v .0 .taken) (eqb-true _ _ (sym (v .2) ∙ not-false _ (w .0 .left))) (w .1))
+    (λ v. there-already (o .fs) (o .k) _ _ _ two (v .0 .taken) (eqb-true _ _ (sym (v .2) ∙ not-false _ (w .0 .left)))
+    (w .1))
     (λ v. absurd (v .0 .left (eqb-true _ _ (sym (v .1) ∙ not-false _ (w .0 .left)))))
     (c .before .if1 .came))
     (c .if2 .came)

@@ -1,4 +1,5 @@
--- `target_fit::marks_fit` meets its contract. The loop's invariant: the mark at every place before i is fit. Assumes nothing.
+-- `target_fit::marks_fit` meets its contract. The loop's invariant: the mark at every place before i is fit. Assumes
+-- nothing.
 use mathlib.Core.Path.{_≡_, refl, sym}
 use mathlib.Core.Bool.{true}
 use Prim.Native.Nat.{_≤_, _-_}

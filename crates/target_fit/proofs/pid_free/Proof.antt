@@ -1,4 +1,5 @@
--- `target_fit::pid_free` meets its contract. The loop's invariant: none of the pids before place j is this one. Assumes nothing.
+-- `target_fit::pid_free` meets its contract. The loop's invariant: none of the pids before place j is this one. Assumes
+-- nothing.
 use mathlib.Core.Path.{_≡_, refl, sym}
 use mathlib.Core.Bool.{true}
 use Prim.Native.Nat.{_≤_, _-_}

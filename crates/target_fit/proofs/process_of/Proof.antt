@@ -1,4 +1,5 @@
--- `target_fit::process_of` meets its contract. The loop's invariant: no process before place k has the pid. Assumes nothing.
+-- `target_fit::process_of` meets its contract. The loop's invariant: no process before place k has the pid. Assumes
+-- nothing.
 use mathlib.Core.Path.{ap, _∙_}
 use mathlib.Core.Bool.{Bool}
 use Prim.Native.Nat.{ℕ, _≤_, _<_, _-_}
@@ -41,8 +42,11 @@ loop-less c = omega arith
 loop-again : tie.Need-loop-again Inv-loop μ-loop
 loop-again c =
     let o = c .before .before .loop in
-    let h : o .k < c .before .before .before .args .count = omega arith in
-    (o .inv .0, pass _ _ noProcess _ _ (o .inv .1) h (ap (has _) (getD-take _ _ _ noProcess h) ∙ ne-eqb _ _ (c .if2 .left)))
+    let h : o .k < c .before .before .before .args .count = omega arith in (
+      o .inv .0,
+      pass _ _ noProcess _ _ (o .inv .1) h (ap (has _) (getD-take _ _ _ noProcess h)
+          ∙ ne-eqb _ _ (c .if2 .left)),
+    )
 
 returns : tie.Need-returns Inv-loop μ-loop
 unfolding processOf

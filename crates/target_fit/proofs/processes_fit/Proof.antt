@@ -1,5 +1,5 @@
--- `target_fit::processes_fit` meets its contract. The loop's invariant: the pid at every place before i is fit, and the array holds
--- these pids. Assumes nothing.
+-- `target_fit::processes_fit` meets its contract. The loop's invariant: the pid at every place before i is fit, and the
+-- array holds these pids. Assumes nothing.
 use mathlib.Core.Path.{_≡_, refl, _∙_}
 use mathlib.Core.Bool.{true}
 use Prim.Native.Nat.{_≤_, _-_}
@@ -50,7 +50,8 @@ returns-4 c =
     let f = c .before .before .before in
     let l = f .before .before in
     pids-unfit _ _ (l .before .before .if1 .left) (l .before .if2 .left) _ (f .before .loop-test .taken)
-    (pid-by _ _ _ (omega arith) (l .loop .inv .2) (f .if3 .left) _ (c .before .pid-free .ensures) ∙ not-true _ (c .if4 .taken))
+    (pid-by _ _ _ (omega arith) (l .loop .inv .2) (f .if3 .left) _ (c .before .pid-free .ensures)
+    ∙ not-true _ (c .if4 .taken))
 
 mul-pids : tie.Need-mul-pids Inv-loop μ-loop
 mul-pids c = omega arith
@@ -69,14 +70,16 @@ loop-again c =
     let f = c .before .before .before in
     let o = f .before .before .loop .inv in (
       omega arith,
-      every-more _ _ (o .1) (pid-by _ _ _ (omega arith) (o .2) (f .if3 .left) _ (c .before .pid-free .ensures) ∙ not-false _ (c .if4 .left)),
+      every-more _ _ (o .1) (pid-by _ _ _ (omega arith) (o .2) (f .if3 .left) _ (c .before .pid-free .ensures)
+          ∙ not-false _ (c .if4 .left)),
       fill-set _ _ _ 4 (o .2) _ refl,
     )
 
 returns-5 : tie.Need-returns-5 Inv-loop μ-loop
 returns-5 c =
     let o = c .before .before in
-    pids-fit _ _ (o .before .if1 .left) (o .if2 .left) _ (c .loop-test .left) (c .before .loop .inv .0) (c .before .loop .inv .1)
+    pids-fit _ _ (o .before .if1 .left) (o .if2 .left) _ (c .loop-test .left) (c .before .loop .inv .0)
+    (c .before .loop .inv .1)
 
 pub processes-fit-spec : {M : Type 1} → statement M
 processes-fit-spec =

@@ -1,4 +1,5 @@
--- `target_fit::sizes_right` meets its contract: the code's test of memory decides whether it looks at the register area. Assumes nothing.
+-- `target_fit::sizes_right` meets its contract: the code's test of memory decides whether it looks at the register
+-- area. Assumes nothing.
 use borrow.Author.Needs.{needs}
 use borrow.Author.Tests.{eq-eqb, ne-eqb}
 use Rattle.target_fit.proofs.sizes_right.Statement.{statement}

@@ -1,5 +1,5 @@
--- `target_scan::check` meets its contract: each test that fails makes the record unfit, and with all passed the scan of its table is the
--- record's. Assumes nothing.
+-- `target_scan::check` meets its contract: each test that fails makes the record unfit, and with all passed the scan of
+-- its table is the record's. Assumes nothing.
 use borrow.Author.Needs.{needs}
 use borrow.Author.Tests.{not-true, not-false}
 use Rattle.target_fit.proofs.Laws.{answered-yes, answered-no, processes-few}
@@ -27,7 +27,8 @@ unfit-requires c κs = search needs
 returns : tie.Need-returns
 returns c =
     let o = c .before in
-    unfit-scan _ _ _ _ (c .unfit .ensures) (fit-window _ _ (answered-no _ _ (o .before .window-fit .ensures) (o .if1 .taken)))
+    unfit-scan _ _ _ _ (c .unfit .ensures)
+    (fit-window _ _ (answered-no _ _ (o .before .window-fit .ensures) (o .if1 .taken)))
 
 processes-fit-requires : tie.Need-processes-fit-requires
 processes-fit-requires c κs = search needs
@@ -38,7 +39,8 @@ unfit-requires-2 c κs = search needs
 returns-2 : tie.Need-returns-2
 returns-2 c =
     let o = c .before in
-    unfit-scan _ _ _ _ (c .unfit2 .ensures) (fit-processes _ _ (answered-no _ _ (o .before .processes-fit .ensures) (o .if2 .taken)))
+    unfit-scan _ _ _ _ (c .unfit2 .ensures)
+    (fit-processes _ _ (answered-no _ _ (o .before .processes-fit .ensures) (o .if2 .taken)))
 
 marks-fit-requires : tie.Need-marks-fit-requires
 marks-fit-requires c κs = processes-few _ _ (answered-yes _ _ (c .before .processes-fit .ensures) (c .if2 .left))
@@ -49,7 +51,8 @@ unfit-requires-3 c κs = search needs
 returns-3 : tie.Need-returns-3
 returns-3 c =
     let o = c .before in
-    unfit-scan _ _ _ _ (c .unfit3 .ensures) (fit-marks _ _ (answered-no _ _ (o .before .marks-fit .ensures) (o .if3 .taken)))
+    unfit-scan _ _ _ _ (c .unfit3 .ensures)
+    (fit-marks _ _ (answered-no _ _ (o .before .marks-fit .ensures) (o .if3 .taken)))
 
 current-fit-requires : tie.Need-current-fit-requires
 current-fit-requires c κs =
@@ -62,7 +65,8 @@ unfit-requires-4 c κs = search needs
 returns-4 : tie.Need-returns-4
 returns-4 c =
     let o = c .before in
-    unfit-scan _ _ _ _ (c .unfit4 .ensures) (fit-current _ _ (answered-no _ _ (o .before .current-fit .ensures) (o .if4 .taken)))
+    unfit-scan _ _ _ _ (c .unfit4 .ensures)
+    (fit-current _ _ (answered-no _ _ (o .before .current-fit .ensures) (o .if4 .taken)))
 
 scan-table-requires : tie.Need-scan-table-requires
 scan-table-requires c κs =
@@ -75,7 +79,8 @@ unfit-requires-5 c κs = search needs
 returns-5 : tie.Need-returns-5
 returns-5 c =
     let o = c .before in
-    unfit-scan _ _ _ _ (c .unfit5 .ensures) (fit-table _ _ _ (o .before .before .scan-table .ensures) (not-true _ (o .if5 .taken)))
+    unfit-scan _ _ _ _ (c .unfit5 .ensures)
+    (fit-table _ _ _ (o .before .before .scan-table .ensures) (not-true _ (o .if5 .taken)))
 
 entry-of-requires : tie.Need-entry-of-requires
 entry-of-requires c κs = search needs
@@ -95,7 +100,8 @@ returns-6 c =
     let w = u .before .before .before .before .before .before in
     let s = w .before .before .before .before in
     unfit-scan _ _ _ _ (c .unfit6 .ensures)
-    (fit-hand _ _ _ (b .before .before .scan-table .ensures) (not-false _ (b .if5 .left)) (target-small (s .args .t) _ (s .good .0)) _
+    (fit-hand _ _ _ (b .before .before .scan-table .ensures) (not-false _ (b .if5 .left))
+    (target-small (s .args .t) _ (s .good .0)) _
     (f .entry-of .ensures) _ (o .before .draft-fit .ensures) (not-true _ (o .if6 .taken)))
 
 returns-7 : tie.Need-returns-7
@@ -107,7 +113,8 @@ returns-7 c =
     let p = m .before .before in
     let w = p .before .before in
     let s = w .before .before .before .before in
-    fit-whole _ _ _ (b .before .before .scan-table .ensures) (not-false _ (b .if5 .left)) (target-small (s .args .t) _ (s .good .0)) _
+    fit-whole _ _ _ (b .before .before .scan-table .ensures) (not-false _ (b .if5 .left))
+    (target-small (s .args .t) _ (s .good .0)) _
     (f .entry-of .ensures) _ (c .before .draft-fit .ensures)
     (answered-yes _ _ (w .before .window-fit .ensures) (w .if1 .left))
     (answered-yes _ _ (p .before .processes-fit .ensures) (p .if2 .left))

@@ -1,4 +1,5 @@
--- `target_scan::clear_of` meets its contract. The loop's invariant: no slot before place j has the id or the site. Assumes nothing.
+-- `target_scan::clear_of` meets its contract. The loop's invariant: no slot before place j has the id or the site.
+-- Assumes nothing.
 use mathlib.Core.Path.{_≡_, refl, sym}
 use mathlib.Core.Bool.{true}
 use Prim.Native.Nat.{_≤_, _-_}
@@ -38,7 +39,8 @@ element-copy-out-if2 c = omega arith
 returns-2 : tie.Need-returns-2 Inv-loop μ-loop
 returns-2 c =
     let o = c .before .before in
-    sym (every-fails _ _ _ (o .before .before .loop-test .taken) (rw (ne-eqb _ _ (o .if1 .left), eq-eqb _ _ (c .if2 .taken))))
+    sym (every-fails _ _ _ (o .before .before .loop-test .taken)
+    (rw (ne-eqb _ _ (o .if1 .left), eq-eqb _ _ (c .if2 .taken))))
 
 add-j : tie.Need-add-j Inv-loop μ-loop
 add-j c = omega arith

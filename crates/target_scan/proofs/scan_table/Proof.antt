@@ -1,5 +1,5 @@
--- `target_scan::scan_table` meets its contract. The loop's invariant, `Scanning`: the arrays hold the entries before place i, free slots
--- after them, and each entry before it is fit. Assumes nothing.
+-- `target_scan::scan_table` meets its contract. The loop's invariant, `Scanning`: the arrays hold the entries before
+-- place i, free slots after them, and each entry before it is fit. Assumes nothing.
 use Prim.Native.Nat.{_-_}
 use mathlib.Core.Logic.{⊎-elim}
 use borrow.Author.Needs.{needs}
@@ -88,7 +88,8 @@ returns c =
     let b = f .before .before .before .before in
     let o = b .before .before .before .before in
     unfit-scan _ _ _ _ (c .unfit .ensures)
-    (scan-unfit (o .before .loop .inv) (o .loop-test .taken) (ne-eqb _ _ (b .if1 .taken)) _ (f .before .depth-of .ensures .0) _
+    (scan-unfit (o .before .loop .inv) (o .loop-test .taken) (ne-eqb _ _ (b .if1 .taken)) _
+    (f .before .depth-of .ensures .0) _
     (f .used-fit .ensures) (c .before .if2 .taken))
 
 cast-id : tie.Need-cast-id Inv-loop μ-loop
@@ -101,7 +102,8 @@ sub-at c =
     let f = d .before in
     let b = f .before .before .before .before in
     let o = b .before .before .before .before in
-    site-over (o .before .loop .inv) (o .loop-test .taken) (ne-eqb _ _ (b .if1 .taken)) _ (f .before .depth-of .ensures .0) _
+    site-over (o .before .loop .inv) (o .loop-test .taken) (ne-eqb _ _ (b .if1 .taken)) _
+    (f .before .depth-of .ensures .0) _
     (f .used-fit .ensures) (d .if2 .left)
 
 clear-of-requires : tie.Need-clear-of-requires Inv-loop μ-loop
@@ -119,7 +121,8 @@ returns-2 c =
     let b = f .before .before .before .before in
     let o = b .before .before .before .before in
     unfit-scan _ _ _ _ (c .unfit2 .ensures)
-    (scan-clash (o .before .loop .inv) (o .loop-test .taken) (ne-eqb _ _ (b .if1 .taken)) _ (f .before .depth-of .ensures .0) _
+    (scan-clash (o .before .loop .inv) (o .loop-test .taken) (ne-eqb _ _ (b .if1 .taken)) _
+    (f .before .depth-of .ensures .0) _
     (f .used-fit .ensures) (d .if2 .left) _ (g .clear-of .ensures) (c .before .if3 .taken))
 
 mul-ids : tie.Need-mul-ids Inv-loop μ-loop

@@ -12,10 +12,16 @@ site-fit-requires : tie.Need-site-fit-requires
 site-fit-requires c κs = search needs
 
 returns-2 : tie.Need-returns-2
-returns-2 c = rw (eq-eqb _ _ (c .before .before .if1 .left), answered-no _ _ (c .before .site-fit .ensures) (c .if2 .taken))
+returns-2 c = rw (
+  eq-eqb _ _ (c .before .before .if1 .left),
+  answered-no _ _ (c .before .site-fit .ensures) (c .if2 .taken),
+)
 
 returns-3 : tie.Need-returns-3
-returns-3 c = rw (eq-eqb _ _ (c .before .before .if1 .left), answered-yes _ _ (c .before .site-fit .ensures) (c .if2 .left))
+returns-3 c = rw (
+  eq-eqb _ _ (c .before .before .if1 .left),
+  answered-yes _ _ (c .before .site-fit .ensures) (c .if2 .left),
+)
 
 pub used-fit-spec : {M : Type 1} → statement M
 used-fit-spec = tie.close (tie.spec returns site-fit-requires returns-2 returns-3)

@@ -18,7 +18,8 @@ module _ (t sites mem : List ℕ) where
   planted-at p i h e = sym (ap (λ (l : List ℕ). getD l i 0) p) ∙ laid-under t sites mem i h e
 
   -- memory that does so has its traps
-  pub planted-by : ((i : ℕ) → i < length mem → covered (length t) sites i ≡ true → getD mem i 0 ≡ getD t (i % length t) 0)
+  pub planted-by : ((i : ℕ) → i < length mem → covered (length t) sites i ≡ true
+      → getD mem i 0 ≡ getD t (i % length t) 0)
       → Planted t sites mem
   unfolding Planted
   planted-by f = laid-is t sites mem mem refl f (λ i h e. refl)

@@ -16,7 +16,7 @@ use Rattle.memory.proofs.Site.{Free}
 use Rattle.memory.proofs.Slots.{none-covered}
 use Rattle.memory.proofs.Bytes.{length-plain, plain-at, plain-under, plain-bare, plain-is, laid-is}
 use Rattle.memory.proofs.Bytes.{overwritten-at, length-overwritten, length-mem-after, mem-under, mem-bare, plain-after}
-use Rattle.memory_laws.specs.Planted.{Planted, planted-at, planted-by}
+use Rattle.memory_laws.proofs.Planted.{Planted, planted-at, planted-by}
 
 -- real memory is plain memory with the traps laid over it
 pub laid-plain : (t sites plain mem : List ℕ) → Planted t sites mem
@@ -45,7 +45,8 @@ read-plain w sites plain mem at n m fits =
     (λ j h. sym (plain-at w sites plain mem (at + j) (omega arith)))
 
 -- a read after a write: a write puts its bytes into plain memory and changes nothing else there
-pub plain-written : (w : ℕ) (sites plain mem : List ℕ) (at : ℕ) (bytes : List ℕ) → 0 < w → length plain ≡ length sites * w
+pub plain-written : (w : ℕ) (sites plain mem : List ℕ) (at : ℕ) (bytes : List ℕ) → 0 < w → length plain
+    ≡ length sites * w
     → plainOf w sites (plainAfter w sites plain at bytes) (memAfter w sites mem at bytes)
     ≡ overwritten (plainOf w sites plain mem) at bytes
 plain-written w sites plain mem at bytes pos fits =
@@ -65,8 +66,10 @@ plain-written w sites plain mem at bytes pos fits =
     after : length (memAfter w sites mem at bytes) ≡ length mem
     after = length-mem-after w sites mem at bytes
 
-    now : (i : ℕ) → i < length mem → getD (overwritten old at bytes) i 0 ≡ writtenAt at bytes i (plainAt w sites plain mem i)
-    now i g = overwritten-at old at bytes i (omega (arith, size)) ∙ ap (writtenAt at bytes i) (plain-at w sites plain mem i g)
+    now : (i : ℕ) → i < length mem → getD (overwritten old at bytes) i 0 ≡ writtenAt at bytes i (plainAt w sites plain
+        mem i)
+    now i g = overwritten-at old at bytes i (omega (arith, size)) ∙ ap (writtenAt at bytes i) (plain-at w sites plain
+        mem i g)
 
 -- bytes under a trap keep their trap
 pub planted-written : (t sites mem : List ℕ) (at : ℕ) (bytes : List ℕ) → Planted t sites mem
@@ -97,7 +100,8 @@ plain-set w sites plain mem i b n =
     plain-is w sites plain (set mem i b) (set old i b) (length-set old i b ∙ size ∙ sym same)
     (λ j h e. other j h (apart w sites i j n e) ∙ plain-under w sites plain mem j e)
     (λ j h e. on-same j i
-    (λ q. rw q (getD-set-same old i b 0 (omega (arith, size, same)) ∙ sym (getD-set-same mem i b 0 (omega (arith, same)))))
+    (λ q. rw q (getD-set-same old i b 0 (omega (arith, size, same))
+    ∙ sym (getD-set-same mem i b 0 (omega (arith, same)))))
     (λ q. other j h q ∙ plain-bare w sites plain mem j e ∙ sym (getD-set-other mem i j b 0 q)))
   where
     old : List ℕ
