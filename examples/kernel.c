@@ -6,6 +6,7 @@
 #include <stdlib.h>
 
 enum { BASE = 0x1000, SIZE = 64, PROCESSES = 2, SITE = 0x1008, SHOWN = 8 };
+enum { PC = SANIRVOQ_BLOCK - 4, TRAP = 2 }; /* where pc is in a block, and the bytes of a trap */
 enum { TMGET = 2, TMPUT = 4, TPROC = 6, TSTATUS = 8, TSTOP = 12, TSTART = 14, TCONDBREAK = 16 };
 enum { RERR = 1, RPROC = 7, RSTATUS = 9 };
 enum { RUNNING = 4 }; /* a state byte */
@@ -36,6 +37,26 @@ static uint8_t *lend(size_t length) {
     return bytes;
 }
 
+static void put_word(uint8_t *bytes, uint32_t word) {
+    for (int i = 0; i < 4; i++) {
+        bytes[i] = (uint8_t)(word >> (24 - 8 * i));
+    }
+}
+
+static uint32_t get_word(const uint8_t *bytes) {
+    uint32_t word = 0;
+    for (int i = 0; i < 4; i++) {
+        word = word << 8 | bytes[i];
+    }
+    return word;
+}
+
+/* A process's block of the register area. This kernel keeps the registers there while the process runs, too. */
+static uint8_t *block_of(const struct kernel *kernel, uint32_t pid) {
+    const int is_first = pid == kernel->target.processes[0].pid;
+    return kernel->lent.registers + (is_first ? 0 : SANIRVOQ_BLOCK);
+}
+
 static void set_up(struct kernel *kernel) {
     const uint32_t pids[PROCESSES] = {5, 7};
     const uint32_t addresses[PROCESSES] = {0x80001000, 0x80002000};
@@ -45,6 +66,12 @@ static void set_up(struct kernel *kernel) {
         kernel->lent.memory[i] = (uint8_t)i;
     }
     expect_accepted("setup", sanirvoq_setup(&kernel->target, kernel->lent, BASE, SIZE, pids, addresses, PROCESSES));
+    for (int p = 0; p < PROCESSES; p++) {
+        /* A register has 0x100 times its number, plus the pid. */
+        for (uint32_t i = 1; i < 32; i++) {
+            put_word(block_of(kernel, pids[p]) + 4 * i, 0x100 * i + pids[p]);
+        }
+    }
 }
 
 static void take_down(struct kernel *kernel) {
@@ -52,19 +79,10 @@ static void take_down(struct kernel *kernel) {
     free(kernel->lent.registers);
 }
 
-static void put_word(uint8_t *bytes, uint32_t word) {
-    for (int i = 0; i < 4; i++) {
-        bytes[i] = (uint8_t)(word >> (24 - 8 * i));
-    }
-}
-
-/* What a process has in its registers when it comes to a pc: 0x100 times the register's number, plus the pid. */
-static void fill_block(uint8_t *block, uint32_t pid, uint32_t pc) {
-    memset(block, 0, SANIRVOQ_BLOCK);
-    for (uint32_t i = 1; i < 32; i++) {
-        put_word(block + 4 * i, 0x100 * i + pid);
-    }
-    put_word(block + SANIRVOQ_BLOCK - 4, pc);
+/* What a process has in its registers when it comes to a pc. */
+static void come_to(const struct kernel *kernel, uint32_t pid, uint32_t pc, uint8_t *block) {
+    memcpy(block, block_of(kernel, pid), SANIRVOQ_BLOCK);
+    put_word(block + PC, pc);
 }
 
 /* ---- lines of text ---- */
@@ -83,6 +101,19 @@ static void show_memory(const struct kernel *kernel) {
     printf("\n");
 }
 
+/* ---- a continue ---- */
+
+/* A process goes on at a breakpoint, where memory holds the trap: the kernel runs the bytes under it elsewhere, with
+ * the registers of the process's block, and lets the process go on behind them. */
+static void go_on(struct kernel *kernel, uint32_t pid, uint8_t first, uint8_t second) {
+    uint8_t *pc = block_of(kernel, pid) + PC;
+    char label[LABEL];
+    put_word(pc, get_word(pc) + TRAP);
+    snprintf(label, sizeof label, "process %u goes on", (unsigned)pid);
+    print_label(label);
+    printf("the kernel runs %02x %02x elsewhere, then on from 0x%x\n", first, second, (unsigned)get_word(pc));
+}
+
 /* ---- the engineer's side ---- */
 
 /* Sends a request (a type, a number of four bytes, and what follows, zero padded), and shows it and its reply. */
@@ -94,8 +125,9 @@ static void ask(struct kernel *kernel, const char *label, uint8_t type, uint32_t
     if (length > 0) {
         memcpy(request + 5, rest, length);
     }
-    expect_accepted(label,
-                    sanirvoq_request(&kernel->target, kernel->lent, request, sizeof request, reply, sizeof reply));
+    const uint32_t result =
+        sanirvoq_request(&kernel->target, kernel->lent, request, sizeof request, reply, sizeof reply);
+    expect_accepted(label, sanirvoq_number(result));
     print_label(label);
     print_bytes(request, sizeof request);
     printf(" -> ");
@@ -104,6 +136,9 @@ static void ask(struct kernel *kernel, const char *label, uint8_t type, uint32_t
         printf("  %.9s", (const char *)(reply + 1));
     }
     printf("\n");
+    if (sanirvoq_answer(result) == 2) {
+        go_on(kernel, number, sanirvoq_first(result), sanirvoq_second(result));
+    }
 }
 
 static void ask_process(struct kernel *kernel, const char *label, uint8_t type, uint32_t pid) {
@@ -131,7 +166,7 @@ static void condition(struct kernel *kernel, const char *label, char letter, uin
 static void run_into_trap(struct kernel *kernel, uint32_t pid, uint32_t pc) {
     uint8_t block[SANIRVOQ_BLOCK];
     char label[LABEL];
-    fill_block(block, pid, pc);
+    come_to(kernel, pid, pc, block);
     const uint32_t result = sanirvoq_trap(&kernel->target, kernel->lent, pid, block, sizeof block);
     snprintf(label, sizeof label, "trap of %u at 0x%x", (unsigned)pid, (unsigned)pc);
     print_label(label);
@@ -147,7 +182,7 @@ static void run_into_trap(struct kernel *kernel, uint32_t pid, uint32_t pc) {
 static void about_to_run(struct kernel *kernel, uint32_t pid) {
     uint8_t block[SANIRVOQ_BLOCK];
     char label[LABEL];
-    fill_block(block, pid, BASE);
+    come_to(kernel, pid, BASE, block);
     const uint32_t result = sanirvoq_schedule(&kernel->target, kernel->lent, pid, block, sizeof block);
     expect_accepted("schedule", sanirvoq_number(result));
     snprintf(label, sizeof label, "schedule of %u", (unsigned)pid);
@@ -179,9 +214,17 @@ static void stop_one(struct kernel *kernel) {
     printf("Both processes come to 0x1008: 5 runs on over the new bytes, 7 stops.\n");
     run_into_trap(kernel, 5, SITE);
     run_into_trap(kernel, 7, SITE);
-    printf("She reads register 10 of process 7 and starts it, which removes breakpoint 4.\n");
+    printf("She changes register 10 of process 7 and starts it. Breakpoint 4 stands.\n");
     ask_process(kernel, "Tproc 7", TPROC, 7);
     read_bytes(kernel, "Tmget 0x28 n 4", 0x28, 4);
+    write_four(kernel, "Tmput 0x28 n 4 00 00 00 63", 0x28, 0x63);
+    ask_process(kernel, "Tstart 7", TSTART, 7);
+    show_memory(kernel);
+    printf("Process 7 comes to 0x1008 again and stops again, with the register that she changed.\n");
+    run_into_trap(kernel, 7, SITE);
+    read_bytes(kernel, "Tmget 0x28 n 4", 0x28, 4);
+    printf("She removes breakpoint 4 and starts process 7, which now just goes on.\n");
+    condition(kernel, "Tcondbreak d 4", 'd', 4);
     ask_process(kernel, "Tstart 7", TSTART, 7);
     show_memory(kernel);
 }

@@ -107,8 +107,14 @@ enum sanirvoq_number {
 static inline uint8_t sanirvoq_number(uint32_t result) { return (uint8_t)result; }
 
 /* Of a trap: 1 Stop (then sanirvoq_first is the breakpoint's id), 2 Pass (then sanirvoq_first and sanirvoq_second are
- * the plain bytes of the instruction, to be run elsewhere). Of a schedule event: 1 the process is to stop, 0 not. Of
- * other steps: 0. */
+ * the plain bytes of the instruction, to be run elsewhere). Of a request: 2 where a Tstart let its process go on at a
+ * breakpoint (then the plain bytes as of Pass), 0 else. Of a schedule event: 1 the process is to stop, 0 not. Of other
+ * steps: 0.
+ *
+ * Where the answer is 2 the breakpoint stands, and memory holds its trap at the process's pc: let go there the process
+ * would only run into the trap again. So the kernel runs that instruction elsewhere, with the process's registers, and
+ * then lets the process go on behind it. After a request these are the registers of the process's block in the register
+ * area, as the host may have changed them. */
 static inline uint8_t sanirvoq_answer(uint32_t result) { return (uint8_t)(result >> 8); }
 static inline uint8_t sanirvoq_first(uint32_t result) { return (uint8_t)(result >> 16); }
 static inline uint8_t sanirvoq_second(uint32_t result) { return (uint8_t)(result >> 24); }
@@ -124,7 +130,7 @@ typedef uint32_t sanirvoq_step(struct sanirvoq_target *target, uint8_t *memory, 
 /* Takes base, size, count and the pids and addresses of the first count processes from the record, and makes the rest
  * of it. */
 sanirvoq_step sanirvoq_step_setup;
-/* Uses input (a request of ten bytes) and reply (ten bytes). */
+/* Uses input (a request of ten bytes) and reply (ten bytes). Its answer may be 2 with the plain bytes. */
 sanirvoq_step sanirvoq_step_request;
 /* Uses pid and input (the process's block, 136 bytes). */
 sanirvoq_step sanirvoq_step_trap;
@@ -163,13 +169,14 @@ static inline uint8_t sanirvoq_setup(struct sanirvoq_target *target, struct sani
                                                lent.registers_length, 0, 0, &none, 0, &none, 0));
 }
 
-/* A request of ten bytes, answered in ten. Answers 0, 2 or 3. */
-static inline uint8_t sanirvoq_request(struct sanirvoq_target *target, struct sanirvoq_lent lent,
-                                       const uint8_t *request, size_t request_length, uint8_t *reply,
-                                       size_t reply_length) {
-    return sanirvoq_number(sanirvoq_step_request(target, lent.memory, lent.memory_length, lent.registers,
-                                                 lent.registers_length, 0, 0, request, request_length, reply,
-                                                 reply_length));
+/* A request of ten bytes, answered in ten. Answers a result: numbers 0, 2 and 3, and for the kernel, beside the reply
+ * that it sends to the host, whether a process goes on at a breakpoint: 2 with the plain bytes to be run elsewhere, for
+ * the process that the request names; else 0. */
+static inline uint32_t sanirvoq_request(struct sanirvoq_target *target, struct sanirvoq_lent lent,
+                                        const uint8_t *request, size_t request_length, uint8_t *reply,
+                                        size_t reply_length) {
+    return sanirvoq_step_request(target, lent.memory, lent.memory_length, lent.registers, lent.registers_length, 0, 0,
+                                 request, request_length, reply, reply_length);
 }
 
 /* A process ran into a trap, with these registers. Answers a result: numbers 0, 2 to 6, and Stop or Pass. */

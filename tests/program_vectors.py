@@ -8,10 +8,11 @@ crates/program_main/stdin     directed steps, written here call by call
 crates/program_random/stdin   random steps of rust/steps
 .../stdout                 what rust/reference answers
 
-The reference is written from document 01 and shares nothing with the crates;
-expected output never comes from the program under test. Every directed call
-also carries the answer that 01 wants, written by hand (for the worked set with
-the bytes as 01 prints them), and the script stops where the reference differs.
+The reference is written from documents 01 and 02 and shares nothing with the
+crates; expected output never comes from the program under test. Every directed
+call also carries the answer that they want, written by hand (for the worked set
+with the bytes as 01 prints them), and the script stops where the reference
+differs.
 """
 
 import functools
@@ -114,8 +115,13 @@ def stop(ident):
     return bytes([0, 1, ident])
 
 
+def beside(plain):
+    """02 and the two plain bytes; nothing where there are none."""
+    return b"\x02" + raw(plain) if plain else b""
+
+
 def passed(plain):
-    return b"\x00\x02" + raw(plain)
+    return b"\x00" + beside(plain)
 
 
 class Script:
@@ -127,6 +133,10 @@ class Script:
     def ask(self, request, reply, comment):
         assert len(request) == len(reply) == 10, comment
         self.add(REQUEST, request, b"\x00" + reply, comment)
+
+    def start(self, pid, plain, comment):
+        """A Tstart that is accepted, with the plain bytes beside its reply, if any."""
+        self.add(REQUEST, ask_pid(TSTART, pid), b"\x00" + STARTED + beside(plain), comment)
 
     def trap(self, pid, pc, wanted, comment, first=0x40):
         self.add(TRAP, word(pid) + block(pc, first), wanted, comment)
@@ -219,6 +229,16 @@ def worked_conditions(s):
     s.ask(tmget(0, 1), PID, "case 11: none current")
     s.ask(ask_pid(TPROC, 5), rproc("80001000"), "case 11: 5 is current and Ready")
     s.ask(tmget(0, 1), raw("01 6e 6f 74 73 74 6f 70 0000"), "case 11: notstop")
+
+
+def worked_continue(s):
+    """Of request Two of 02."""
+    s.fresh()
+    s.plant(4, [], 4104, "Two")
+    s.trap(7, 4104, raw("00 01 04"), "Two: 7 stops")
+    s.add(REQUEST, raw("0e 00000007 0000000000"), raw("00 0f 000000000000000000 02 08 09"), "Two: Tstart 7")
+    s.ask(tmget(4104, 2), raw("03 08 09 00000000000000"), "Two: plain bytes")
+    s.trap(7, 4104, raw("00 01 04"), "Two: 7 stops again")
 
 
 # ---- Requests and their refusals. ----
@@ -359,7 +379,7 @@ def registers_of_two(s):
     s.ask(tmget(4, 9), rmget("a145464748494a4b4c"), "5 has what it had")
     s.ask(ask_pid(TPROC, 7), rproc("80002000"), "make 7 current")
     s.ask(tmget(4, 9), rmget("14151617d1d2d3d41c"), "7 has what was written")
-    s.ask(ask_pid(TSTART, 7), STARTED, "start 7")
+    s.start(7, "0809", "start 7")
     s.ask(tmget(4, 1), NOTSTOP, "7 is current and no longer Stopped")
 
 
@@ -411,8 +431,9 @@ def window_ends(s):
     s.ask(tmget(END - 3, 4), INVAL, "past the end")
     s.trap(7, END - 2, stop(2), "stop at the last site")
     s.trap(5, B, stop(1), "stop at the first one")
-    s.ask(ask_pid(TSTART, 7), STARTED, "start 7: its breakpoint goes")
-    s.ask(ask_pid(TSTART, 5), STARTED, "start 5: its breakpoint goes")
+    s.start(7, "3ee1", "start 7: what was written is there")
+    s.start(5, "e201", "start 5: here too")
+    s.restart("the breakpoints go")
     s.ask(tmget(END - 2, 2), rmget("3ee1"), "what was written is there")
     s.ask(tmget(B, 2), rmget("e201"), "here too")
 
@@ -535,7 +556,9 @@ def full_table(s):
     s.ask(cond("n", 9), TAKEN, "now n is taken")
     s.ask(cond("b", B + 20), TAKEN, "and set")
     s.ask(cond("n", 8), BAD_COUNT, "full again")
-    s.ask(ask_pid(TSTART, 5), STARTED, "start 5: its breakpoint goes")
+    s.start(5, "0e0f", "start 5 at the eighth, which stays")
+    s.ask(cond("n", 8), BAD_COUNT, "so the table is full")
+    s.ask(cond("d", 17), TAKEN, "the eighth goes")
     s.plant(8, [], B + 14, "there is room again, at the same site")
     s.restart("all eight go")
     s.ask(tmget(B + 3, 9), rmget("030405060708090a0b"), "memory is plain")
@@ -638,20 +661,20 @@ def stop_and_start(s):
     s.ask(ask_pid(TPROC, 5), rproc("80001000"), "make it current")
     s.ask(tmget(132, 4), rmget("00001008"), "its block was saved once")
     s.ask(ask_pid(TSTOP, 5), MARKED, "Tstop of a Stopped one")
-    s.ask(ask_pid(TSTART, 5), STARTED, "Tstart")
+    s.start(5, "", "Tstart")
     s.ask(ask_pid(TSTATUS, 5), rstatus("Ready"), "it is Ready")
     s.schedule(5, 4104, NO, "no mark was left")
     s.ask(ask_pid(TSTOP, 5), MARKED, "Tstop")
-    s.ask(ask_pid(TSTART, 5), STARTED, "Tstart cancels it")
+    s.start(5, "", "Tstart cancels it")
     s.schedule(5, 4104, NO, "no stop is wanted")
     s.ask(ask_pid(TSTOP, 7), MARKED, "Tstop 7")
     s.state(7, 4, ACCEPTED, "a state event keeps the mark")
     s.ask(ask_pid(TSTATUS, 7), rstatus("Running"), "7 is Running")
     s.schedule(7, 0, YES, "7 stops")
-    s.ask(ask_pid(TSTART, 7), STARTED, "start 7")
+    s.start(7, "", "start 7")
     s.ask(ask_pid(TSTATUS, 7), rstatus("Ready"), "Ready, not Running")
     s.state(7, 200, ACCEPTED, "another state")
-    s.ask(ask_pid(TSTART, 7), STARTED, "Tstart of one that is not Stopped")
+    s.start(7, "", "Tstart of one that is not Stopped")
     s.ask(ask_pid(TSTATUS, 7), rstatus("c8"), "its state stays")
 
 
@@ -663,40 +686,107 @@ def marks(s):
     s.schedule(5, 4104, YES, "Pass keeps the mark")
     s.ask(ask_pid(TSTOP, 7), MARKED, "Tstop 7")
     s.trap(7, 4104, stop(1), "7 stops at the breakpoint")
-    s.ask(ask_pid(TSTART, 7), STARTED, "start 7")
+    s.start(7, "0809", "start 7")
     s.schedule(7, 4104, NO, "no mark was left")
     s.ask(ask_pid(TSTOP, 7), MARKED, "Tstop 7")
     s.restart("restart clears marks")
     s.schedule(7, 4104, NO, "no stop is wanted")
 
 
-def start_removes(s):
+def second_stops(s):
+    """A continue at a site keeps the breakpoint: only d and restart remove it."""
+    s.fresh()
+    s.plant(1, [], 4104, "a breakpoint")
+    s.trap(5, 4104, stop(1), "5 stops")
+    s.trap(7, 4104, stop(1), "7 too")
+    s.ask(cond("n", 9), TAKEN, "a condition in hand")
+    s.start(5, "0809", "start 5 at the breakpoint")
+    s.ask(ask_pid(TSTATUS, 7), rstatus("Stopped"), "7 stays Stopped")
+    s.ask(ask_pid(TSTATUS, 5), rstatus("Ready"), "5 is Ready")
+    s.ask(cond("b", 4112), TAKEN, "the condition in hand stayed")
+    for first in (0x50, 0x60):
+        s.trap(5, 4104, stop(1), "5 stops again at the same breakpoint", first)
+        s.start(5, "0809", "and goes on again")
+    s.ask(tmget(4104, 2), rmget("0809"), "a read has the plain bytes")
+    s.ask(tmput(4105, "a1a2"), WRITTEN, "write under the trap")
+    s.start(7, "08a1", "start 7: the bytes written")
+    s.trap(7, 4104, stop(1), "7 stops again")
+    s.ask(tmput(4104, "0290"), WRITTEN, "the trap's own bytes under the trap")
+    s.start(7, "0290", "those are the plain ones then")
+    s.trap(7, 4104, stop(1), "7 stops once more")
+    s.ask(cond("d", 1), TAKEN, "the breakpoint goes")
+    s.start(7, "", "start 7: none is there")
+    s.trap(7, 4104, NO_SITE, "it is gone")
+    s.trap(5, 4112, stop(9), "5 stops at the other one")
+    s.restart("every breakpoint goes, 5 is Ready")
+    s.start(5, "", "5 is not Stopped, and none is there")
+    s.trap(5, 4112, NO_SITE, "it is gone")
+
+
+def continues_beside(s):
     s.fresh()
     s.plant(1, [], 4104, "a breakpoint")
     s.plant(2, [], 4110, "another")
+    for pc in (4102, 4103, 4105, 4106, 4108, 4112, 0, 0x00100800, 0x10081008, LAST):
+        s.ask(ask_pid(TSTOP, 5), MARKED, "Tstop 5")
+        s.schedule(5, pc, YES, f"5 stops at {pc}")
+        s.start(5, "", f"no breakpoint is at {pc}")
     s.trap(5, 4104, stop(1), "5 stops at the first")
-    s.trap(7, 4104, stop(1), "7 too")
-    s.ask(ask_pid(TSTART, 5), STARTED, "start 5: the breakpoint goes")
-    s.trap(5, 4104, NO_SITE, "it is gone")
-    s.ask(ask_pid(TSTATUS, 7), rstatus("Stopped"), "7 stays Stopped")
-    s.ask(cond("d", 1), INVAL, "the id is unknown")
-    s.plant(1, [], 4104, "a new one at the same site")
-    s.ask(ask_pid(TSTART, 7), STARTED, "start 7: the new one goes, by the pc")
-    s.trap(7, 4104, NO_SITE, "it is gone")
-    s.plant(1, [], 4104, "once more")
-    s.ask(ask_pid(TSTART, 5), STARTED, "5 is not Stopped")
-    s.trap(5, 4104, stop(1), "so the breakpoint stayed")
-    s.ask(ask_pid(TPROC, 5), rproc("80001000"), "make 5 current")
-    s.ask(tmput(132, "0000100e"), WRITTEN, "its pc becomes 4,110")
-    s.ask(cond("n", 9), TAKEN, "a condition in hand")
-    s.ask(ask_pid(TSTART, 5), STARTED, "start 5: the one at 4,110 goes")
-    s.ask(cond("b", 4112), TAKEN, "the condition in hand stayed")
-    s.trap(5, 4110, NO_SITE, "it is gone")
-    s.trap(5, 4104, stop(1), "the one at 4,104 is there")
-    s.ask(ask_pid(TSTOP, 7), MARKED, "Tstop 7")
-    s.schedule(7, 4112, YES, "7 is scheduled at a site")
-    s.ask(ask_pid(TSTART, 7), STARTED, "start 7: that breakpoint goes")
-    s.trap(7, 4112, NO_SITE, "it is gone")
+    s.trap(7, 4110, stop(2), "7 stops at the other")
+    s.start(7, "0e0f", "start 7: by its own block")
+    s.start(5, "0809", "start 5: by its own block")
+
+
+def continues_written(s):
+    s.fresh()
+    s.plant(1, [], 4104, "a breakpoint")
+    s.plant(2, [], 4110, "another")
+    for data, plain, comment in (
+            ("0000100e", "0e0f", "its pc becomes 4,110"), ("0000100a", "", "its pc becomes 4,106"),
+            ("00001008", "0809", "its pc is written as it was"), ("10001008", "", "its pc is high above")):
+        s.trap(5, 4104, stop(1), "5 stops at the first")
+        s.ask(ask_pid(TPROC, 5), rproc("80001000"), "make 5 current")
+        s.ask(tmput(132, data), WRITTEN, comment)
+        s.start(5, plain, f"{comment}: start 5")
+    s.trap(5, 4110, stop(2), "5 stops at the other")
+    s.ask(tmput(135, "08"), WRITTEN, "the last byte of its pc")
+    s.start(5, "0809", "start 5 at the first")
+    s.trap(5, 4110, stop(2), "5 stops at the other")
+    s.ask(tmput(128, "00001008"), WRITTEN, "status, not pc")
+    s.start(5, "0e0f", "start 5 at the other")
+
+
+def continues_scheduled(s):
+    s.fresh()
+    s.plant(1, [("k", 7), "a"], 4104, "a breakpoint that never stops 5")
+    s.ask(ask_pid(TSTOP, 5), MARKED, "Tstop 5")
+    s.schedule(5, 4104, YES, "a schedule event stops 5 at the site")
+    s.start(5, "0809", "start 5: whatever stopped it, whatever the condition")
+    s.trap(5, 4104, passed("0809"), "5 passes")
+    s.ask(ask_pid(TSTOP, 5), MARKED, "Tstop 5")
+    s.schedule(5, 4120, YES, "a schedule event stops 5 elsewhere")
+    s.plant(2, [], 4120, "a breakpoint comes to where it is")
+    s.start(5, "1819", "start 5: it is at a site now")
+
+
+def continues_not_stopped(s):
+    s.fresh()
+    s.plant(1, [], 4104, "a breakpoint")
+    s.trap(5, 4104, stop(1), "5 stops")
+    s.start(5, "0809", "start 5")
+    s.start(5, "", "start 5 again: Ready, its saved pc still at the site")
+    s.ask(ask_pid(TSTOP, 5), MARKED, "Tstop 5")
+    s.start(5, "", "a mark is no stop")
+    s.state(5, 200, ACCEPTED, "another state")
+    s.start(5, "", "which is not Stopped either")
+    s.ask(ask_pid(TSTATUS, 5), rstatus("c8"), "its state stays")
+    s.start(7, "", "7 has not been Stopped")
+    s.ask(ask_pid(TSTART, 6), PID, "an unlisted pid")
+    s.ask(changed(ask_pid(TSTART, 5), 9), INVAL, "an unused byte")
+    s.trap(5, 4104, stop(1), "5 stops")
+    s.ask(ask_pid(TSTART, 6), PID, "an unlisted pid: no bytes")
+    s.ask(changed(ask_pid(TSTART, 5), 5), INVAL, "an unused byte: no bytes")
+    s.start(5, "0809", "5 was Stopped all along")
 
 
 def numbers(s):
@@ -746,13 +836,14 @@ def restarts(s):
 
 
 SECTIONS = (
-    worked_memory, worked_removal, worked_processes, worked_conditions,
+    worked_memory, worked_removal, worked_processes, worked_conditions, worked_continue,
     types, counts, addresses, pids, states,
     registers_refused, registers_read, registers_written, registers_of_two,
     three_sites, trap_alike, window_ends,
     letters, nothing_in_hand, idents, sites, lacking_values, seventeenth, full_table,
     primaries, operators, stars, stars_over_writes,
-    stop_and_start, marks, start_removes, numbers, restarts,
+    stop_and_start, marks, second_stops, continues_beside, continues_written, continues_scheduled,
+    continues_not_stopped, numbers, restarts,
 )
 
 

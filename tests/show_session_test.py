@@ -17,7 +17,7 @@ TOOL = ROOT / "tools" / "show_session.py"
 PROGRAM = ROOT / "target" / "bin" / "program_main"
 sys.path.insert(0, str(TOOL.parent))
 
-from messages import TPROC, TSTART, TSTOP, show_reply, show_request  # noqa: E402
+from messages import TPROC, TSTART, TSTATUS, TSTOP, show_reply, show_request  # noqa: E402
 from session import SCHEDULE, TRAP, split_steps  # noqa: E402
 from show_session import lines_of, worked_session  # noqa: E402
 from worked import RESTARTED, cond, event, mget, mput, of_pid  # noqa: E402
@@ -107,6 +107,8 @@ class Traps(unittest.TestCase):
     PLANT = [(cond("n", 3), RCONDBREAK), (cond("b", 0x1008), RCONDBREAK)]
     PLANTED = ["Tcondbreak n 3 Rcondbreak", "Tcondbreak b 0x1008 Rcondbreak",
                "breakpoint 3 at 0x1008: plain 08 09, in memory 02 90"]
+    STOP = (event(TRAP, 5, 0x1008), raw("00 01 03"))
+    START = of_pid(TSTART, 5)
 
     def test_write_across_a_trap(self):
         lines = shown(*self.PLANT, (mput(0x1009, "aabbcc"), RMPUT), (cond("d", 3), RCONDBREAK),
@@ -121,18 +123,41 @@ class Traps(unittest.TestCase):
         self.assertEqual(lines, self.PLANTED + [
             "Tmput 0x1009 n 3 aa bb cc Rerr inval", "Tcondbreak d 4 Rerr inval", "Tmput 0x1008 n 1 08 Rmput"])
 
-    def test_start_at_a_breakpoint_removes_it(self):
-        lines = shown(*self.PLANT, (event(TRAP, 5, 0x1008), raw("00 01 03")), (of_pid(TSTART, 7), RSTART),
-                      (of_pid(TSTART, 5), RSTART))
+    def test_start_at_a_breakpoint_keeps_it(self):
+        lines = shown(*self.PLANT, self.STOP, (of_pid(TSTART, 7), RSTART), (self.START, RSTART + raw("02 08 09")),
+                      (self.START, RSTART), self.STOP, (mput(0x1009, "aa"), RMPUT),
+                      (self.START, RSTART + raw("02 08 aa")))
         self.assertEqual(lines[3:], [
-            "trap of 5 at pc 0x1008 Stop 3", "Tstart 7 Rstart", "Tstart 5 Rstart",
-            "breakpoint 3 at 0x1008 is gone: in memory 08 09"])
+            "trap of 5 at pc 0x1008 Stop 3", "Tstart 7 Rstart", "Tstart 5 Rstart, Pass 08 09", "Tstart 5 Rstart",
+            "trap of 5 at pc 0x1008 Stop 3", "Tmput 0x1009 n 1 aa Rmput",
+            "breakpoint 3 at 0x1008: plain 08 aa, in memory 02 90", "Tstart 5 Rstart, Pass 08 aa"])
 
     def test_start_goes_by_the_pc_that_was_written(self):
         stop = [(of_pid(TSTOP, 5), RSTOP), (event(SCHEDULE, 5, 0x1010), raw("00 01"))]
         current = (of_pid(TPROC, 5), raw("00 07 383030303130303000"))
-        lines = shown(*self.PLANT, *stop, current, (mput(132, "00001008"), RMPUT), (of_pid(TSTART, 5), RSTART))
-        self.assertEqual(lines[-1], "breakpoint 3 at 0x1008 is gone: in memory 08 09")
+        lines = shown(*self.PLANT, *stop, (self.START, RSTART), *stop, current, (mput(132, "00001008"), RMPUT),
+                      (self.START, RSTART + raw("02 08 09")))
+        self.assertEqual(lines[-1], "Tstart 5 Rstart, Pass 08 09")
+
+    def test_a_start_with_other_bytes_is_marked(self):
+        right = RSTART + raw("02 08 09")
+        trap = RSTART + raw("02 02 90")
+        for answers, wanted in (([RSTART], "08 09"), ([trap], "08 09"), ([right, right], "nothing")):
+            pairs = [*self.PLANT, self.STOP, *((self.START, answer) for answer in answers)]
+            lines, fits = lines_of(b"".join(step for step, _ in pairs), b"".join(answer for _, answer in pairs))
+            self.assertEqual(lines[-1], f"    ! to be run elsewhere is {wanted}")
+            self.assertFalse(fits)
+
+    def test_what_follows_a_start(self):
+        for step, answer, wanted in (
+                (event(TRAP, 6, 0x1008), raw("04"), "trap of 6 at pc 0x1008 number 4: unlisted pid"),
+                (of_pid(TSTATUS, 5), raw("00 09 526561647900000000"), "Tstatus 5 Rstatus Ready"),
+                (event(TRAP, 5, 0x1008), raw("00 02 08 09"), "trap of 5 at pc 0x1008 Pass 08 09")):
+            for start in ([(self.START, RSTART)], [self.STOP, (self.START, RSTART + raw("02 08 09"))]):
+                self.assertEqual(shown(*self.PLANT, *start, (step, answer))[-1], wanted)
+        lines, fits = lines_of(self.START, RSTART + raw("02 08"))
+        self.assertEqual(lines[-1], "! the output ends before the answer of step 1 of 1: Tstart 5")
+        self.assertFalse(fits)
 
     def test_restart(self):
         lines = shown(*self.PLANT, (RESTARTED, RESET), (RESTARTED, RESET))
@@ -172,7 +197,7 @@ class Command(unittest.TestCase):
     def test_help(self):
         done = tool("--help")
         self.assertEqual(done.returncode, 0)
-        for part in ("usage:", "unused", "Rmget", "plain bytes", "--build", "Exit status"):
+        for part in ("usage:", "unused", "Rmget", "Pass", "plain bytes", "--build", "Exit status"):
             self.assertIn(part, done.stdout)
 
     def test_files(self):
@@ -205,6 +230,7 @@ class Command(unittest.TestCase):
         done = tool()
         self.assertEqual(done.returncode, 0, done.stderr)
         self.assertIn("breakpoint 3 at 0x1008 is gone: in memory 08 aa", done.stdout)
+        self.assertIn("Rstart, Pass 08 09", done.stdout)
         data, titles = worked_session()
         self.assertGreater(len(done.stdout.splitlines()), len(split_steps(data)[0]) + len(titles))
 

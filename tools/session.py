@@ -5,9 +5,11 @@ docs/PROTOCOL.md, "The program", has the format.
 
 from typing import NamedTuple
 
-from messages import RERR, TMGET, number, show_reply, show_request
+from messages import RERR, RSTART, TMGET, number, show_reply, show_request
 
 REQUEST, TRAP, SCHEDULE, STATE, RESTART = 1, 2, 3, 4, 5
+STOP, PASS = 1, 2
+REPLIED = 11  # bytes of a number and a reply
 NAMES = {REQUEST: "request", TRAP: "trap", SCHEDULE: "schedule", STATE: "state", RESTART: "restart"}
 BODY = {REQUEST: 10, TRAP: 140, SCHEDULE: 140, STATE: 5, RESTART: 0}
 OTHER_KIND = b"\xff"
@@ -40,12 +42,17 @@ def split_steps(data):
 
 
 def answer_length(kind, output):
-    """How many bytes the answer at the front of the output has; more than there are where it is cut."""
+    """How many bytes the answer at the front of the output has; more than there are where it is cut.
+
+    A Pass may follow an Rstart. It cannot be taken for the number of the next step: the program's are never 2.
+    """
     if not output or output[0] != 0:
         return 1
     if kind == TRAP:
-        return 4 if output[1:2] == b"\x02" else 3
-    return {REQUEST: 11, SCHEDULE: 2, STATE: 1, RESTART: 11}[kind]
+        return 4 if output[1:2] == bytes([PASS]) else 3
+    if kind == REQUEST and output[1:2] == bytes([RSTART]) and output[REPLIED:REPLIED + 1] == bytes([PASS]):
+        return REPLIED + 3
+    return {REQUEST: REPLIED, SCHEDULE: 2, STATE: 1, RESTART: REPLIED}[kind]
 
 
 def split_answers(steps, output):
@@ -63,6 +70,11 @@ def split_answers(steps, output):
 def is_accepted(step, answer):
     """Number 0, and of a request no Rerr."""
     return answer[0] == 0 and not (step.kind == REQUEST and answer[1] == RERR)
+
+
+def plain_beside(answer):
+    """The plain bytes that the answer of a request has beside its reply; none where it has no Pass."""
+    return answer[REPLIED + 1:]
 
 
 def show_step(step):
@@ -83,9 +95,10 @@ def show_answer(step, answer):
         return f"number {answer[0]}: {NUMBERS.get(answer[0], 'no number of a step')}"
     if kind in (REQUEST, RESTART):
         asked = body[5] if kind == REQUEST and body[0] == TMGET else 9
-        return show_reply(answer[1:], asked)
+        plain = plain_beside(answer)
+        return show_reply(answer[1:REPLIED], asked) + (f", Pass {plain.hex(' ')}" if plain else "")
     if kind == TRAP:
-        return f"Stop {answer[2]}" if answer[1] == 1 else f"Pass {answer[2:].hex(' ')}"
+        return f"Stop {answer[2]}" if answer[1] == STOP else f"Pass {answer[2:].hex(' ')}"
     if kind == SCHEDULE:
         return "yes" if answer[1] else "no"
     return "accepted"

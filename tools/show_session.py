@@ -9,13 +9,16 @@
 What is shown (docs/PROTOCOL.md has the format):
 - a request and its reply by name and fields; of an Rmget the n bytes that were asked for, and no more
 - behind a message, `unused` and its unused bytes, where one of them is not zero
+- behind an Rstart, `Pass` and the plain bytes that the kernel is to run elsewhere, where the process goes on at a
+  breakpoint
 - under a step that changes memory or breakpoints, each breakpoint that stands: the plain bytes of its site and what is
   in memory there, the trap; and of one that went, what is in memory afterwards. This is told from the steps and the
-  accepted answers, over the worked setup; nothing is read for it. A read that does not answer those bytes is marked !
+  accepted answers, over the worked setup; nothing is read for it. A read or a Pass behind an Rstart that does not have
+  those bytes is marked !
 - how the input ends, where it is cut inside a step or comes to an unknown kind; and whether the output fits the steps
 
-Exit status: 0; 1 where the output does not fit the steps or a read is marked; 2 for bad usage, a file that cannot be
-read, or no program.
+Exit status: 0; 1 where the output does not fit the steps or something is marked; 2 for bad usage, a file that cannot
+be read, or no program.
 """
 
 import argparse

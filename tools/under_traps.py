@@ -1,12 +1,12 @@
 """What lies under the traps, told from the steps and their answers alone.
 
 Memory as the programs in it see it (plain memory) begins as the setup's and takes every accepted write. A breakpoint
-stands from an accepted b until an accepted d, a Tstart of a process that is Stopped at it, or a restart; as long as it
-stands, memory itself holds the trap there.
+stands from an accepted b until an accepted d or a restart; as long as it stands, memory itself holds the trap there. A
+process that goes on at a breakpoint runs the plain bytes there, which come with the answer.
 """
 
 from messages import TCONDBREAK, TMGET, TMPUT, TPROC, TSTART, number
-from session import REQUEST, RESTART, SCHEDULE, TRAP, is_accepted
+from session import REQUEST, RESTART, SCHEDULE, STOP, TRAP, is_accepted, plain_beside
 
 TRAP_BYTES = b"\x02\x90"
 BLOCK, PC = 136, 132
@@ -35,8 +35,8 @@ class UnderTraps:
         sites, plain = dict(self.sites), bytes(self.plain)
         remarks = []
         if step.kind == REQUEST:
-            remarks = self.request(step.body, answer[1:])
-        elif step.kind in (TRAP, SCHEDULE) and answer[1] == 1:
+            remarks = self.request(step.body, answer)
+        elif step.kind in (TRAP, SCHEDULE) and answer[1] == STOP:
             self.stop(number(step.body[:4]), step.body[4:])
         elif step.kind == RESTART:
             self.sites, self.stopped, self.current = {}, set(), None
@@ -48,21 +48,30 @@ class UnderTraps:
         self.stopped.add(pid)
         self.registers[pid] = bytearray(block)
 
-    def request(self, message, reply):
+    def request(self, message, answer):
         kind, value, n = message[0], number(message[1:5]), message[5]
         if kind == TMGET:
-            return self.compare(value, n, reply)
+            return self.compare(value, n, answer[2:2 + n])
         if kind == TMPUT:
             self.write(value, message[6:6 + n])
         elif kind == TPROC:
             self.current = value
-        elif kind == TSTART and value in self.stopped:
-            self.stopped.remove(value)
-            pc = number(self.registers[value][PC:])
-            self.sites = {ident: site for ident, site in self.sites.items() if site != pc}
+        elif kind == TSTART:
+            return self.start(value, plain_beside(answer))
         elif kind == TCONDBREAK:
             self.condbreak(chr(message[5]), value)
         return []
+
+    def start(self, pid, answered):
+        """A process that was Stopped at a breakpoint ought to go on with the plain bytes there, another with none."""
+        plain = b""
+        if pid in self.stopped:
+            self.stopped.remove(pid)
+            pc = number(self.registers[pid][PC:])
+            plain = self.bytes_at(pc, len(TRAP_BYTES)) if pc in self.sites.values() else b""
+        if answered == plain:
+            return []
+        return [f"! to be run elsewhere is {plain.hex(' ') or 'nothing'}"]
 
     def write(self, address, data):
         if address < BLOCK and self.current in self.registers:
@@ -78,10 +87,10 @@ class UnderTraps:
         elif letter == "d":
             self.sites.pop(value, None)
 
-    def compare(self, address, n, reply):
+    def compare(self, address, n, answered):
         """A read of the window ought to answer plain memory; a remark where it does not."""
         plain = self.bytes_at(address, n)
-        if address < BASE or reply[1:1 + n] == plain:
+        if address < BASE or answered == plain:
             return []
         return [f"! plain memory has {plain.hex(' ')}"]
 

@@ -55,6 +55,9 @@ SESSION = [
     ("A condition on memory reads what the program has there, not the trap", [
         cond("n", 4), cond("p", 0x1008), cond("*"), cond("p", 0x0B0A0908), cond("="), cond("a"), cond("b", 0x1008),
         event(TRAP, 5, 0x1008), RESTARTED]),
+    ("A breakpoint stops again after a continue, which carries the bytes under it for the kernel", [
+        cond("n", 4), cond("b", 0x1008), event(TRAP, 7, 0x1008), of_pid(TPROC, 7), mput(40, "00000063"),
+        of_pid(TSTART, 7), event(TRAP, 7, 0x1008), cond("d", 4), of_pid(TSTART, 7), RESTARTED]),
     ("Stopping a process, its registers, and starting it again", [
         mget(0, 1), of_pid(TPROC, 5), mget(0, 1), of_pid(TSTOP, 5), event(SCHEDULE, 5, 0x1010), mget(132, 4),
         of_pid(TSTART, 5), of_pid(TSTATUS, 5)]),

@@ -1,10 +1,10 @@
 -- Laws of finding a breakpoint and of its slot. Assumes nothing.
-use mathlib.Core.Path.{_≡_, refl, sym, _∙_}
+use mathlib.Core.Path.{_≡_, refl, sym}
 use mathlib.Core.Bool.{Bool, true, false}
 use mathlib.Core.List.{List, [], _∷_}
 use Prim.Native.Nat.{ℕ, _+_, _-_, _*_, _%_, _<_, _≤_}
 use native.Mathlib.Omega.{arith}
-use borrow.Author.Tests.{eq-eqb, ne-eqb}
+use borrow.Author.Tests.{lt-ltb, le-ltb, eq-eqb, ne-eqb}
 use lib.Dec.{eqb}
 use lib.ListN.{length, getD}
 use mir.Val.{Val}
@@ -18,7 +18,8 @@ use Rattle.target_fit.specs.Fit.{entryAt}
 use Rattle.target_fit.specs.declared.Scan.{Scan}
 use Rattle.memory.specs.Head.{house}
 use Rattle.memory.specs.Overlay.{siteOver, slotOf}
-use Rattle.rules.specs.Breakpoint.{sites, isAt, breakpointAt}
+use Rattle.rules.specs.declared.Answer.the-variants.{Nothing}
+use Rattle.rules.specs.Breakpoint.{sites, isAt, breakpointAt, passOf, passAt}
 use Rattle.rules.proofs.Facts.{Shaped, Good}
 use Rattle.rules.proofs.FitFacts.{facts-of, two-each}
 use Rattle.rules.proofs.Found.{at-used, at-site}
@@ -48,15 +49,15 @@ shaped-of t vs h =
     }
 
 -- what a step starts from is a good record
-pub ready-good : (t : Target) (vs : List Val) (s : Scan) (mem regs : List ℕ) → Is target.the-row t vs
-    → Ready house t s mem regs → Good house t mem
-ready-good t vs s mem regs h r = record { shaped = shaped-of t vs h; fit = r .fit; sized = r .memory }
+pub ready-good : (t : Target) (vs : List Val) (s : Scan) (mem : List ℕ) → Is target.the-row t vs
+    → Ready house t s mem → Good house t mem
+ready-good t vs s mem h r = record { shaped = shaped-of t vs h; fit = r .fit; sized = r .memory }
 
 -- its breakpoints can be found
-pub ready-findable : (t : Target) (vs : List Val) (s : Scan) (mem regs : List ℕ) → Is target.the-row t vs
-    → Ready house t s mem regs → Findable t s
-ready-findable t vs s mem regs h r =
-    let g = ready-good t vs s mem regs h r in
+pub ready-findable : (t : Target) (vs : List Val) (s : Scan) (mem : List ℕ) → Is target.the-row t vs
+    → Ready house t s mem → Findable t s
+ready-findable t vs s mem h r =
+    let g = ready-good t vs s mem h r in
     let f = facts-of t mem g in
     record {
       traps = r .sites;
@@ -109,6 +110,17 @@ module _ (t : Target) (s : Scan) (f : Findable t s) (address : ℕ) where
       let e = f .placed k l (at-used es address l) in
       absurd (never (omega (arith, e .1, at-site es address l)) (omega (arith, e .0, at-site es address l))))
       (λ h. omega (arith, first-within (isAt address) es))
+
+-- ---- what a kernel runs in the place of the trap, by where the breakpoint is found
+
+module _ (es : List Entry) (address k : ℕ) (z : length es ≡ 8) (e : k ≡ breakpointAt es address) where
+  pub pass-none : 8 ≤ k → Nothing ≡ passAt es address
+  unfolding passAt
+  pass-none h = rw (← e, z, le-ltb k 8 h)
+
+  pub pass-one : k < 8 → passOf (entryAt es k) ≡ passAt es address
+  unfolding passAt
+  pass-one h = rw (← e, z, lt-ltb k 8 h)
 
 -- ---- the scan's slot of a used entry: its site, as an offset into the window, and its two plain bytes
 

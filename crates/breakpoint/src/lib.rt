@@ -1,5 +1,6 @@
-// Breakpoints: finding the one at an address, and putting its plain bytes back, over a fit record and its table as
-// arrays.
+// Breakpoints: finding the one at an address, what a kernel runs in its place, and putting its plain bytes back, over a
+// fit record and its table as arrays.
+use rules::Answer;
 use target::Table;
 use target::Target;
 use target_fit::Scan;
@@ -8,7 +9,7 @@ ghost use mathlib.Core.List.{List};
 ghost use Prim.Native.Nat.{ℕ};
 ghost use Rattle.rules.specs.Outcome.{world};
 ghost use Rattle.step_effect.specs.Change.{withoutEntry};
-ghost use Rattle.rules.specs.Breakpoint.{breakpointAt, removed};
+ghost use Rattle.rules.specs.Breakpoint.{breakpointAt, passAt, removed};
 ghost use Rattle.breakpoint.specs.Breaks.{Findable, Removable};
 
 // The index of the breakpoint at an address, or the number of entries.
@@ -25,6 +26,20 @@ pub fn breakpoint_at(t: Target, s: Scan, address: u32) -> usize
     }
     let sites = s.sites;
     memory::slot_of(&sites, at as usize)
+}
+
+// The plain bytes of the breakpoint at an address, as Pass has them; nothing where there is none.
+pub fn pass_at(t: Target, s: Scan, address: u32) -> Answer
+    requires { ⌜ Findable t s ⌝ }
+    ensures { λ r. ⌜ r ≡ passAt (t .table .entries) address ⌝ }
+{
+    let k = breakpoint_at(t, s, address);
+    if Table::ENTRIES <= k {
+        return Answer::Nothing;
+    }
+    let table = t.table;
+    let e = table.entries[k];
+    Answer::Pass(e.plain[0], e.plain[1])
 }
 
 // Puts the plain bytes of the breakpoint at an index back.

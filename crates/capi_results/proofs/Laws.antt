@@ -10,7 +10,7 @@ use Rattle.step_effect.specs.Change.{applied}
 use Rattle.rules.specs.Record.{withTable, withDraft, withEntries, withCurrent, withProcesses, setState}
 use Rattle.step_effect.specs.declared.Change.{Change}
 use Rattle.step_effect.specs.declared.Change.the-variants.{Same, Plain, Current, State, Begin, Add, Drop, Plant, Remove}
-use Rattle.step_effect.specs.declared.Change.the-variants.{Start, Restart}
+use Rattle.step_effect.specs.declared.Change.the-variants.{Restart}
 use Rattle.target.specs.declared.Target.{Target}
 use Rattle.capi_results.specs.Seen.{Seen, seen}
 use Rattle.capi_results.specs.Touched.{touchedOf}
@@ -42,7 +42,6 @@ stored result (Add letter value) plain t = refl
 stored result Drop plain t = refl
 stored result (Plant site b0 b1) plain t = refl
 stored result (Remove k) plain t = refl
-stored result (Start i k) plain t = refl
 stored result Restart plain t = refl
 
 -- a result and a record in the place of their equals

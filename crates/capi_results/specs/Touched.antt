@@ -2,7 +2,7 @@
 use mathlib.Core.Bool.{true, false}
 use Rattle.step_effect.specs.declared.Change.{Change}
 use Rattle.step_effect.specs.declared.Change.the-variants.{Same, Plain, Current, State, Begin, Add, Drop, Plant, Remove}
-use Rattle.step_effect.specs.declared.Change.the-variants.{Start, Restart}
+use Rattle.step_effect.specs.declared.Change.the-variants.{Restart}
 use Rattle.capi_results.specs.declared.Touched.{Touched}
 
 unfoldable pub touchedOf : Change → Touched
@@ -15,5 +15,4 @@ touchedOf (Add letter value) = record { beside = false; entry = false; plains = 
 touchedOf Drop = record { beside = false; entry = false; plains = false; fresh = false; draft = true }
 touchedOf (Plant site b0 b1) = record { beside = false; entry = true; plains = false; fresh = false; draft = true }
 touchedOf (Remove k) = record { beside = false; entry = true; plains = false; fresh = false; draft = false }
-touchedOf (Start i k) = record { beside = true; entry = true; plains = false; fresh = false; draft = false }
 touchedOf Restart = record { beside = true; entry = false; plains = false; fresh = true; draft = false }

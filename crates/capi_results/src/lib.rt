@@ -85,7 +85,6 @@ fn touched_by(c: Change) -> Touched
         Change::Drop => Touched::of(false, false, false, false, true),
         Change::Plant(_, _, _) => Touched::of(false, true, false, false, true),
         Change::Remove(_) => Touched::of(false, true, false, false, false),
-        Change::Start(_, _) => Touched::of(true, true, false, false, false),
         Change::Restart => Touched::of(true, false, false, true, false),
     }
 }

@@ -5,7 +5,7 @@ use mathlib.Core.List.{List, []}
 use Prim.Native.Nat.{ℕ, _<_, _≤_}
 use native.Mathlib.Omega.{arith}
 use borrow.Author.Tests.{lt-ltb, le-ltb, eq-eqb, ne-eqb}
-use lib.ListN.{length, getD, replicate}
+use lib.ListN.{length, replicate}
 use Rattle.condition.proofs.Depth.{formed-few}
 use Rattle.condition.specs.Evaluate.{evaluateOf, fetchOf}
 use Rattle.target_fit.specs.Fit.{stopped, findOf, entryAt}
@@ -14,7 +14,7 @@ use Rattle.target_fit.proofs.Laws.{onFound, on-found}
 use Rattle.target_fit.specs.declared.Lookup.{Lookup}
 use Rattle.target_fit.specs.declared.Lookup.the-variants.{At, Unlisted}
 use Rattle.memory.specs.Head.{house}
-use Rattle.rules.specs.Breakpoint.{breakpointAt}
+use Rattle.rules.specs.Breakpoint.{breakpointAt, passOf}
 use Rattle.step_effect.specs.Change.{applied}
 use Rattle.rules.specs.Event.{onListed, holds, trapped, trap, schedule, state}
 use Rattle.rules.proofs.Facts.{Good}
@@ -24,7 +24,7 @@ use Rattle.rules.specs.Outcome.{World, world, Outcome, answered, refused}
 use Rattle.step_effect.specs.Ready.{Ready, effectOutcome}
 use Rattle.rules.specs.Record.{setState, isStopped, pcOf, saved, stopWith}
 use Rattle.rules.specs.declared.Answer.{Answer}
-use Rattle.rules.specs.declared.Answer.the-variants.{Nothing, Stop, Pass, Yes, No}
+use Rattle.rules.specs.declared.Answer.the-variants.{Nothing, Stop, Yes, No}
 use Rattle.step_effect.specs.declared.Change.{Change}
 use Rattle.step_effect.specs.declared.Change.the-variants.{Same, State}
 use Rattle.step_effect.specs.declared.Effect.{Effect}
@@ -127,7 +127,7 @@ module _ (w : World) (pid : ℕ) (a : Lookup) (e : a ≡ findOf (w .target) pid)
         trap-none l = listed _ _ (rw (ne-eqb _ stopped n, ← p, ← f, eight, le-ltb k 8 l))
 
         -- by whether the condition of the one that is found holds
-        module _ (l : k < 8) (s : Scan) (ok : Ready house (w .target) s (w .mem) (w .regs)) (c : Bool)
+        module _ (l : k < 8) (s : Scan) (ok : Ready house (w .target) s (w .mem)) (c : Bool)
             (v : c ≡ (let b = entryAt (w .target .table .entries) k in
             evaluateOf (fetchOf house (s .sites) (s .plain) (w .mem) (w .target .base)) pid (b .elements) (b .count)))
           where
@@ -145,9 +145,7 @@ module _ (w : World) (pid : ℕ) (a : Lookup) (e : a ≡ findOf (w .target) pid)
             unfolding trapped
             trap-stop y = found _ (rw (holds-as, y))
 
-            pub trap-pass : c ≡ false
-                → (let b = entryAt (w .target .table .entries) k in
-                answered (Pass (getD (b .plain) 0 0) (getD (b .plain) 1 0)) w)
+            pub trap-pass : c ≡ false → answered (passOf (entryAt (w .target .table .entries) k)) w
                 ≡ trap house w pid block
             unfolding trapped
             trap-pass y = found _ (rw (holds-as, y))

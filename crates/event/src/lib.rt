@@ -15,7 +15,7 @@ ghost use Rattle.memory.specs.Head.{house};
 ghost use Rattle.target.specs.Limits.{blockSize, maxProcesses, stopped};
 ghost use Rattle.rules.specs.Outcome.{world};
 ghost use Rattle.rules.specs.Record.{saved};
-ghost use Rattle.step_effect.specs.Ready.{Ready, effectOutcome};
+ghost use Rattle.step_effect.specs.Ready.{ReadyAll, effectOutcome};
 ghost use Rattle.rules.specs.Event.{trap as trapRule, schedule as scheduleRule, state as stateRule};
 ghost use Rattle.step_effect.specs.declared.Change.the-variants as change;
 
@@ -42,7 +42,7 @@ fn stop(regs: &mut [u8], i: usize, block: &[u8], answer: Answer) -> Effect
 
 // A process ran into a trap, with these registers.
 pub fn trap(t: Target, s: Scan, mem: &[u8], regs: &mut [u8], pid: u32, block: &[u8]) -> Effect
-    requires { ⌜ Ready house t s (now mem) (now regs) ⌝ }
+    requires { ⌜ ReadyAll house t s (now mem) (now regs) ⌝ }
     requires { ⌜ length (now block) ≡ blockSize ⌝ }
     ensures { λ r. ⌜ effectOutcome t r (now (mem .entry)) (now (regs .exit)) []
         ≡ trapRule house (world t (now (mem .entry)) (now (regs .entry))) pid (now (block .entry)) ⌝ }

@@ -147,7 +147,7 @@ fn turn(
 // The whole program. It cannot promise what the operating system reads and writes: no contract can say that. What is
 // proved on the way is the loop's invariant, BetweenTurns in specs/Session: the world is what the program comes to over
 // all bytes read so far, however the reads cut them. A turn never lacks room: 4,096 bytes of input are at most as many
-// steps, of eleven bytes each at most, and 65,536 is more.
+// steps, of fourteen bytes each at most, and 65,536 is more.
 // A proved loop has to end, and nothing says that the input does: the turns are counted down from a number that no run
 // uses up.
 pub fn serve_all() {

@@ -1,11 +1,11 @@
 -- Laws of one step: what each kind encodes, and what it shows. Assumes nothing.
 use mathlib.Core.Path.{_≡_, refl, ap, _∙_}
-use mathlib.Core.List.{List, [], _++_, append-nil}
+use mathlib.Core.List.{List, _++_}
 use Prim.Native.Nat.{ℕ, _+_, _-_, _≤_}
 use native.Mathlib.Omega.{arith}
 use borrow.Author.Tests.{eqb-true}
 use lib.Dec.{eqb}
-use lib.ListN.{length, take, drop, getD, replicate}
+use lib.ListN.{length, take, drop, getD, replicate, length-append}
 use Rattle.target.specs.Limits.{blockSize}
 use Rattle.common.specs.Bytes.{wordAt}
 use Rattle.common.proofs.Cases.{on-test}
@@ -13,7 +13,7 @@ use Rattle.common.proofs.Lists.{part-to-end}
 use Rattle.memory.specs.Head.{house}
 use Rattle.rules.specs.Outcome.{World, world, Outcome, outcome, answerBytes}
 use Rattle.rules.specs.Claims.{RightReply}
-use Rattle.rules.proofs.Replies.{replies, request-quiet, restart-quiet}
+use Rattle.rules.proofs.Replies.{replies}
 use Rattle.rules.specs.Step.{requestOf, trapOf, scheduleOf, stateOf, restartOf}
 use Rattle.rules.specs.Step.{Step, request, trapEvent, scheduleEvent, stateEvent, restartStep, stepOf}
 use Rattle.rules.specs.declared.Answer.{Answer}
@@ -22,13 +22,13 @@ use Rattle.target.specs.declared.Target.{Target}
 use Rattle.step.specs.declared.StepKind.{StepKind}
 use Rattle.step.specs.declared.StepKind.the-variants.{Request, Trap, Schedule, State, Restart}
 use Rattle.program_run.specs.declared.Stepped.{Stepped}
-use Rattle.program_run.specs.Encoding.{messageBytes, pidBytes, stepMost, bodyOf, encoded, stepOn}
+use Rattle.program_run.specs.Encoding.{messageBytes, pidBytes, answerMost, stepMost, bodyOf, encoded, stepOn}
 use Rattle.rules.specs.Outcome.{shownWith, shown}
 use Rattle.program_run.specs.Written.{Writes, Steps}
 
--- ---- a step shows eleven bytes at most
+-- ---- a step shows fourteen bytes at most
 
-length-answer : (a : Answer) → length (answerBytes a) ≤ 3
+pub length-answer : (a : Answer) → length (answerBytes a) ≤ answerMost
 unfolding answerBytes
 length-answer Nothing = omega arith
 length-answer (Stop id) = omega arith
@@ -36,35 +36,28 @@ length-answer (Pass x y) = omega arith
 length-answer Yes = omega arith
 length-answer No = omega arith
 
-module _ (o : Outcome) where
-  abbrev Short : Type 0
-  Short = length (o .reply ++ answerBytes (o .answer)) ≤ messageBytes
-
-  ten : length (o .reply) ≡ messageBytes → o .answer ≡ Nothing → Short
-  unfolding answerBytes
-  ten h e = rw (e, append-nil (o .reply)) (omega arith)
-
-  three : o .reply ≡ [] → Short
-  three e = rw e (omega (arith, length-answer (o .answer)))
+abbrev Short : Outcome → Type 0
+Short o = length (o .reply) ≤ messageBytes
 
 short : (t : Target) (mem : List ℕ) (e : Step) → RightReply e (stepOf house t mem e) → Short (stepOf house t mem e)
 unfolding RightReply stepOf
-short t mem (request regs bytes reply) r =
-    let w = world t mem regs in
-    ten (requestOf house w bytes reply) (r .ten) (request-quiet house w bytes reply)
-short t mem (trapEvent regs pid block) r = three (trapOf house (world t mem regs) pid block) (r .none)
-short t mem (scheduleEvent regs pid block) r = three (scheduleOf house (world t mem regs) pid block) (r .none)
-short t mem (stateEvent regs pid value) r = three (stateOf house (world t mem regs) pid value) (r .none)
-short t mem (restartStep regs reply) r =
-    let w = world t mem regs in
-    ten (restartOf house w reply) (r .ten) (restart-quiet house w reply)
+short t mem (request regs bytes reply) r = omega (arith, r .ten)
+short t mem (trapEvent regs pid block) r = rw (r .none) (omega arith)
+short t mem (scheduleEvent regs pid block) r = rw (r .none) (omega arith)
+short t mem (stateEvent regs pid value) r = rw (r .none) (omega arith)
+short t mem (restartStep regs reply) r = omega (arith, r .ten)
 
 pub shown-most : (t : Target) (mem : List ℕ) (e : Step) → length (shown (stepOf house t mem e)) ≤ stepMost
 unfolding shown shownWith
 shown-most t mem e =
     let o = stepOf house t mem e in
     on-test (eqb (o .number) 0)
-    (λ h. rw h (omega (arith, short t mem e (replies house t mem e (eqb-true (o .number) 0 h)))))
+    (λ h. rw h (omega (
+      arith,
+      short t mem e (replies house t mem e (eqb-true (o .number) 0 h)),
+      length-append (o .reply) (answerBytes (o .answer)),
+      length-answer (o .answer),
+    )))
     (λ h. rw h (omega arith))
 
 -- ---- the step of each kind
@@ -118,18 +111,8 @@ steps-few w kind body r mem regs before after s =
     omega (arith, s .writes .filled, shown-most (w .target) (w .mem) (encoded kind body (w .regs)))
 
 module _ (o : Outcome) (number : ℕ) (answer : Answer) (r : Stepped) (mem regs before after : List ℕ) where
-  pub steps-reply : (reply : List ℕ) → outcome number answer (world (r .target) mem regs) reply ≡ o
-      → o .answer ≡ Nothing → Writes (shownWith number reply) (r .filled) before after → Steps o r mem regs before after
-  unfolding shown answerBytes
-  steps-reply reply e q h =
-      let a : answer ≡ Nothing = ap (λ (x : Outcome). x .answer) e ∙ q in
-      record {
-        world = ap (λ (x : Outcome). x .after) e;
-        writes = rw (← e, a, append-nil reply) h;
-      }
-
-  pub steps-answer : (t : Target) → outcome number answer (world t mem regs) [] ≡ o
-      → (r .target ≡ t) × Writes (shownWith number (answerBytes answer)) (r .filled) before after
+  pub steps-shown : (t : Target) (reply : List ℕ) → outcome number answer (world t mem regs) reply ≡ o
+      → (r .target ≡ t) × Writes (shownWith number (reply ++ answerBytes answer)) (r .filled) before after
       → Steps o r mem regs before after
   unfolding shown
-  steps-answer t e h = record { world = rw (h .0) (ap (λ (x : Outcome). x .after) e); writes = rw (← e) (h .1) }
+  steps-shown t reply e h = record { world = rw (h .0) (ap (λ (x : Outcome). x .after) e); writes = rw (← e) (h .1) }

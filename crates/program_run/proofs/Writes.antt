@@ -1,13 +1,14 @@
 -- Laws of bytes that are written to the front of a buffer: by stores, by a copy, and behind what is there already.
 -- Assumes nothing.
 use mathlib.Core.Path.{_≡_, refl, sym, ap, _∙_}
-use mathlib.Core.List.{List, [], _∷_, _++_, append-assoc}
-use Prim.Native.Nat.{ℕ, suc, _+_, _≤_, _<_, min}
+use mathlib.Core.List.{List, [], _∷_, _++_, append-assoc, append-nil}
+use Prim.Native.Nat.{ℕ, _+_, _-_, _≤_, min}
+use native.Mathlib.Nat.{zero-add}
 use native.Mathlib.Omega.{arith}
 use borrow.Author.Tests.{eq-eqb, ne-eqb}
-use lib.ListN.{length, take, drop, set, length-append, length-drop}
-use lib.Seq.{paste, length-take-le, sets, sets-eq, take-at, drop-at, drop-drop}
-use Rattle.common.proofs.Lists.{copy-whole}
+use lib.ListN.{length, take, drop, length-append, length-drop, drop-of-length-le}
+use lib.Seq.{paste, take-all, sets, sets-eq, take-at, drop-at, drop-drop}
+use Rattle.common.proofs.Lists.{part-to-end}
 use Rattle.memory.specs.Write.{overwritten}
 use Rattle.memory.proofs.Parts.{put-over}
 use Rattle.memory.proofs.Bytes.{length-overwritten}
@@ -35,26 +36,14 @@ module _ (number : ℕ) (bytes : List ℕ) where
   unfolding shownWith
   shown-whole h = rw (eq-eqb number 0 h)
 
--- a number that is 0, and the bytes behind it
-pub writes-whole : (l : List ℕ) (number : ℕ) (bytes stored : List ℕ) → number ≡ 0 → bytes ≡ stored
-    → length stored < length l
-    → Writes (shownWith number bytes) (suc (length stored)) l (sets l 0 (number ∷ stored))
-writes-whole l number bytes stored z e h =
-    writes-stored l _ (number ∷ stored) (shown-whole number bytes z ∙ ap (λ (x : List ℕ). number ∷ x) e) h
-
--- the bytes as a copy behind the number
-pub writes-copied : (l : List ℕ) (number : ℕ) (bytes part : List ℕ) (n : ℕ) → number ≡ 0 → length bytes ≡ n
-    → n < length l
-    → let old = take n (drop 1 (set l 0 number)) in
-    part ≡ paste old 0 bytes (min (length old) (length bytes))
-    → Writes (shownWith number bytes) (suc n) l (take 1 (set l 0 number) ++ (part ++ drop n (drop 1 (set l 0 number))))
-writes-copied [] number bytes part n z k h e = absurd (omega arith)
-writes-copied (x ∷ l) number bytes part n z k h e =
-    let q : part ≡ bytes = e ∙ copy-whole (take n l) bytes (length-take-le n l (omega arith) ∙ sym k) in
-    let s = shown-whole number bytes z in
+-- a copy at the front
+pub writes-copied : (l bytes k : List ℕ) → length bytes ≤ length l
+    → k ≡ paste l 0 bytes (min (length l) (length bytes)) → Writes bytes (length bytes) l k
+writes-copied l bytes k h e =
+    let m : min (length l) (length bytes) ≡ length bytes = omega arith in
     record {
-      filled = rw (s, ← k);
-      buffer = rw (s, q, ← k) (sym (over-front (x ∷ l) (number ∷ bytes) (omega arith)));
+      filled = refl;
+      buffer = e ∙ rw (m, zero-add, take-all (length bytes) bytes (omega arith)) (sym (over-front l bytes h));
     }
 
 -- nothing
@@ -86,3 +75,12 @@ module _ (l k : List ℕ) (done : List ℕ) (n : ℕ) (h : Writes done n l k) wh
           filled = rw (g .filled) (sym z);
           buffer = rw (a, b, over-front l (done ++ bytes) (omega (arith, z)), z, append-assoc);
         }
+
+    -- the same where the part is lent as one that goes to the end
+    pub writes-part : (bytes part : List ℕ) (m : ℕ) → Writes bytes m (take (length k - n) (drop n k)) part
+        → n + length bytes ≤ length l
+        → Writes (done ++ bytes) (n + m) l (take n k ++ (part ++ drop (length k - n) (drop n k)))
+    writes-part bytes part m g room =
+        let past : length (drop n k) ≤ length k - n = simp length-drop (omega arith) in
+        let z : Writes bytes m (drop n k) part = rw (part-to-end k n (length k) refl) at g in
+        rw (drop-of-length-le (drop n k) past, append-nil part) (writes-behind bytes part m z room)

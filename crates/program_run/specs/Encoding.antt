@@ -23,9 +23,13 @@ messageBytes = 10
 abbrev pub pidBytes : ℕ
 pidBytes = 4
 
--- the most that a step writes: "the number, then ten bytes"
+-- the most that an answer has: "02 and two bytes"
+abbrev pub answerMost : ℕ
+answerMost = 3
+
+-- the most that a step writes: "the number, then ten bytes"; 02, Two: "02 and the two bytes after such a reply"
 abbrev pub stepMost : ℕ
-stepMost = 1 + messageBytes
+stepMost = 1 + messageBytes + answerMost
 
 -- ---- what is read
 

@@ -39,7 +39,7 @@ AnyCutting = (w : World) (pieces : List (List ℕ)) → inPieces (ended w UsedUp
 
 -- ---- room
 
--- with room for eleven bytes to each byte of the input, a run is the program's, and it never lacks room
+-- with room for fourteen bytes to each byte of the input, a run is the program's, and it never lacks room
 pub record NeverFull (w : World) (input : List ℕ) (room : ℕ) : Type 0 where
   pub whole : runWithin w input room ≡ runOf w input
   pub fits : length (runOf w input .output) ≤ room

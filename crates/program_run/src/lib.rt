@@ -5,21 +5,25 @@ use step_effect::Done;
 use target::Process;
 use target::Target;
 ghost use mathlib.Core.Path.{_≡_};
-ghost use Prim.Native.Nat.{_≤_};
+ghost use Prim.Native.Nat.{_+_, _≤_};
+ghost use mathlib.Core.List.{_++_};
 ghost use lib.ListN.{length, replicate};
 ghost use Rattle.memory.specs.Head.{house};
 ghost use Rattle.rules.specs.Outcome.{world, answerBytes};
 ghost use Rattle.rules.specs.Step.{requestOf, restartOf};
-ghost use Rattle.program_run.specs.Encoding.{messageBytes, stepMost, listedKind, bodyOf, stepOn};
+ghost use Rattle.program_run.specs.Encoding.{messageBytes, answerMost, stepMost, listedKind, bodyOf, stepOn};
 ghost use Rattle.rules.specs.Outcome.{shownWith};
 ghost use Rattle.program_run.specs.Written.{Writes, Steps, RunLeaves};
 
-// The bytes of a request and of a reply, and of a pid, the most that a step writes, and what another kind writes.
+// The bytes of a request and of a reply, and of a pid, the most that an answer and a step write, and what another kind
+// writes.
 const MESSAGE: usize = 10;
 
 const PID: usize = 4;
 
-const STEP_MOST: usize = 1 + MESSAGE;
+const ANSWER_MOST: usize = 3;
+
+const STEP_MOST: usize = 1 + MESSAGE + ANSWER_MOST;
 
 const OTHER_KIND: u8 = 0xff;
 
@@ -77,49 +81,71 @@ fn body_of(kind: StepKind) -> usize
     }
 }
 
-// Writes a number and, where it is 0, a reply.
-fn show_reply(number: u8, reply: [u8; MESSAGE], out: &mut [u8]) -> usize
-    requires { ⌜ stepMost ≤ length (now out) ⌝ }
-    ensures { λ r. ⌜ Writes (shownWith number reply) r (now (out .entry)) (now (out .exit)) ⌝ }
+// Writes the bytes of an answer, and says how many they are.
+fn show_answer(answer: Answer, out: &mut [u8]) -> usize
+    requires { ⌜ answerMost ≤ length (now out) ⌝ }
+    ensures { λ r. ⌜ Writes (answerBytes answer) r (now (out .entry)) (now (out .exit)) ⌝ }
 {
-    out[0] = number;
-    if number != 0 {
-        return 1;
-    }
-    common::copy(&mut out[1..STEP_MOST], &reply);
-    STEP_MOST
-}
-
-// Writes a number and, where it is 0, the answer of an event.
-fn show_answer(number: u8, answer: Answer, out: &mut [u8]) -> usize
-    requires { ⌜ stepMost ≤ length (now out) ⌝ }
-    ensures { λ r. ⌜ Writes (shownWith number (answerBytes answer)) r (now (out .entry)) (now (out .exit)) ⌝ }
-{
-    out[0] = number;
-    if number != 0 {
-        return 1;
-    }
     match answer {
-        Answer::Nothing => 1,
+        Answer::Nothing => 0,
         Answer::Stop(id) => {
-            out[1] = 1;
-            out[2] = id;
-            3
+            out[0] = 1;
+            out[1] = id;
+            2
         }
         Answer::Pass(x, y) => {
-            out[1] = 2;
-            out[2] = x;
-            out[3] = y;
-            4
+            out[0] = 2;
+            out[1] = x;
+            out[2] = y;
+            3
         }
         Answer::Yes => {
-            out[1] = 1;
-            2
+            out[0] = 1;
+            1
         }
         Answer::No => {
-            out[1] = 0;
-            2
+            out[0] = 0;
+            1
         }
+    }
+}
+
+// Writes a reply and then an answer.
+fn show_reply(reply: &[u8], answer: Answer, out: &mut [u8]) -> usize
+    requires { ⌜ length (now reply) + answerMost ≤ length (now out) ⌝ }
+    ensures { λ r. ⌜ Writes (now (reply .entry) ++ answerBytes answer) r (now (out .entry)) (now (out .exit)) ⌝ }
+{
+    common::copy(out, reply);
+    let n = reply.len();
+    n + show_answer(answer, &mut out[n..])
+}
+
+// Writes a number and, where it is 0, a reply and an answer.
+fn show(number: u8, reply: &[u8], answer: Answer, out: &mut [u8]) -> usize
+    requires { ⌜ (length (now reply) ≤ messageBytes) × (stepMost ≤ length (now out)) ⌝ }
+    ensures { λ r. ⌜ Writes (shownWith number (now (reply .entry) ++ answerBytes answer)) r
+        (now (out .entry)) (now (out .exit)) ⌝ }
+{
+    out[0] = number;
+    if number != 0 {
+        return 1;
+    }
+    1 + show_reply(reply, answer, &mut out[1..])
+}
+
+// What a step gave, and what it shows written.
+fn shown(done: Done, reply: &[u8], out: &mut [u8]) -> Stepped
+    requires { ⌜ (length (now reply) ≤ messageBytes) × (stepMost ≤ length (now out)) ⌝ }
+    ensures { λ r. ⌜ (r .target ≡ done .target)
+        × Writes (shownWith (done .number) (now (reply .entry) ++ answerBytes (done .answer))) (r .filled)
+        (now (out .entry)) (now (out .exit)) ⌝ }
+{
+    let answer = done.answer;
+    let filled = show(done.number, reply, answer, out);
+    let after = done.target;
+    Stepped {
+        target: after,
+        filled,
     }
 }
 
@@ -133,12 +159,7 @@ fn request(t: Target, mem: &mut [u8], regs: &mut [u8], body: &[u8], out: &mut [u
 {
     let mut reply: [u8; MESSAGE] = [0; MESSAGE];
     let done = stub::request(t, mem, regs, body, &mut reply);
-    let filled = show_reply(done.number, reply, out);
-    let after = done.target;
-    Stepped {
-        target: after,
-        filled,
-    }
+    shown(done, &reply, out)
 }
 
 // A restart, and its reply written.
@@ -150,28 +171,18 @@ fn restart(t: Target, mem: &mut [u8], regs: &mut [u8], out: &mut [u8]) -> Steppe
 {
     let mut reply: [u8; MESSAGE] = [0; MESSAGE];
     let done = stub::restart(t, mem, regs, &mut reply);
-    let filled = show_reply(done.number, reply, out);
-    let after = done.target;
-    Stepped {
-        target: after,
-        filled,
-    }
+    shown(done, &reply, out)
 }
 
-// What an event gave, and its answer written.
-fn answered(done: Done, out: &mut [u8]) -> Stepped
+// An event, which has no reply, and its answer written.
+fn event(done: Done, out: &mut [u8]) -> Stepped
     requires { ⌜ stepMost ≤ length (now out) ⌝ }
     ensures { λ r. ⌜ (r .target ≡ done .target)
         × Writes (shownWith (done .number) (answerBytes (done .answer))) (r .filled)
         (now (out .entry)) (now (out .exit)) ⌝ }
 {
-    let answer = done.answer;
-    let filled = show_answer(done.number, answer, out);
-    let after = done.target;
-    Stepped {
-        target: after,
-        filled,
-    }
+    let none = [0u8; 1];
+    shown(done, &none[..0], out)
 }
 
 // One step, and what it writes.
@@ -193,17 +204,17 @@ fn step(
         StepKind::Trap => {
             let pid = common::word_at(body, 0);
             let done = stub::trap(t, mem, regs, pid, &body[PID..]);
-            answered(done, out)
+            event(done, out)
         }
         StepKind::Schedule => {
             let pid = common::word_at(body, 0);
             let done = stub::schedule(t, mem, regs, pid, &body[PID..]);
-            answered(done, out)
+            event(done, out)
         }
         StepKind::State => {
             let pid = common::word_at(body, 0);
             let done = stub::state(t, mem, regs, pid, body[PID]);
-            answered(done, out)
+            event(done, out)
         }
         StepKind::Restart => restart(t, mem, regs, out),
     }
@@ -221,7 +232,7 @@ fn ended(target: Target, used: usize, filled: usize, end: End) -> Ran
 }
 
 // Runs the steps of the input, one after the other, until it is used up or ends inside a step, or another kind comes.
-// With less output than eleven bytes for each byte of input it takes no step, so that it never stops halfway for want
+// With less output than fourteen bytes for each byte of input it takes no step, so that it never stops halfway for want
 // of room.
 pub fn run(t: Target, mem: &mut [u8], regs: &mut [u8], input: &[u8], output: &mut [u8]) -> Ran
     ensures { λ r. ⌜ RunLeaves

@@ -107,10 +107,10 @@ fn site_free(t: Target, s: Scan, val: u32) -> bool
 }
 
 // `b`: sets the condition in hand as a breakpoint.
-fn set<'a>(t: Target, s: Scan, mem: &'a mut [u8], regs: &'a [u8], val: u32) -> Served
-    requires { ⌜ Ready house t s (now mem) (now regs) ⌝ }
-    ensures { λ r. ⌜ servedOutcome t r (now (mem .exit)) (now (regs .entry))
-        ≡ setBreakpoint house (world t (now (mem .entry)) (now (regs .entry))) val ⌝ }
+fn set(t: Target, s: Scan, mem: &mut [u8], val: u32) -> Served
+    requires { ⌜ Ready house t s (now mem) ⌝ }
+    ensures { λ r. ⌜ ((regs : List ℕ) → servedOutcome t r (now (mem .exit)) regs
+        ≡ setBreakpoint house (world t (now (mem .entry)) regs) val) ⌝ }
 {
     let table = t.table;
     let d = table.draft;
@@ -128,10 +128,10 @@ fn set<'a>(t: Target, s: Scan, mem: &'a mut [u8], regs: &'a [u8], val: u32) -> S
 }
 
 // `d`: removes the breakpoint with an id. The condition in hand stays.
-fn delete<'a>(t: Target, s: Scan, mem: &'a mut [u8], regs: &'a [u8], val: u32) -> Served
-    requires { ⌜ Ready house t s (now mem) (now regs) ⌝ }
-    ensures { λ r. ⌜ servedOutcome t r (now (mem .exit)) (now (regs .entry))
-        ≡ deleteBreakpoint (world t (now (mem .entry)) (now (regs .entry))) val ⌝ }
+fn delete(t: Target, s: Scan, mem: &mut [u8], val: u32) -> Served
+    requires { ⌜ Ready house t s (now mem) ⌝ }
+    ensures { λ r. ⌜ ((regs : List ℕ) → servedOutcome t r (now (mem .exit)) regs
+        ≡ deleteBreakpoint (world t (now (mem .entry)) regs) val) ⌝ }
 {
     let unknown = wire::bytes_of(Message::Rerr {
         reason: Reason::Inval,
@@ -149,22 +149,15 @@ fn delete<'a>(t: Target, s: Scan, mem: &'a mut [u8], regs: &'a [u8], val: u32) -
 }
 
 // Tcondbreak, by its letter.
-pub fn condbreak<'a>(
-    t: Target,
-    s: Scan,
-    mem: &'a mut [u8],
-    regs: &'a [u8],
-    val: u32,
-    op: u8,
-) -> Served
-    requires { ⌜ Ready house t s (now mem) (now regs) ⌝ }
-    ensures { λ r. ⌜ servedOutcome t r (now (mem .exit)) (now (regs .entry))
-        ≡ condbreakOf house (world t (now (mem .entry)) (now (regs .entry))) val op ⌝ }
+pub fn condbreak(t: Target, s: Scan, mem: &mut [u8], val: u32, op: u8) -> Served
+    requires { ⌜ Ready house t s (now mem) ⌝ }
+    ensures { λ r. ⌜ ((regs : List ℕ) → servedOutcome t r (now (mem .exit)) regs
+        ≡ condbreakOf house (world t (now (mem .entry)) regs) val op) ⌝ }
 {
     match op {
         b'n' => begin(t, s, val),
-        b'b' => set(t, s, mem, regs, val),
-        b'd' => delete(t, s, mem, regs, val),
+        b'b' => set(t, s, mem, val),
+        b'd' => delete(t, s, mem, val),
         _ => add(t, op, val),
     }
 }

@@ -30,8 +30,8 @@ use Rattle.step_effect.specs.declared.Change.the-variants.{Plain}
 use Rattle.rules.specs.Breakpoint.{sites, plains}
 use Rattle.step_effect.specs.Change.{applied}
 use Rattle.rules.proofs.FitFacts.{tests-of}
-use Rattle.rules.specs.Outcome.{World, world, Outcome, outcome, replied, error}
-use Rattle.step_effect.specs.Ready.{Ready}
+use Rattle.rules.specs.Outcome.{World, world, Outcome, outcome, repliedWith, replied, error}
+use Rattle.step_effect.specs.Ready.{Ready, ReadyAll}
 use Rattle.rules.specs.Record.{withTable, withEntries, indexOf, isStopped, blockAt}
 use Rattle.rules.specs.Request.{onBlock, data9Of, gotFrom, mget, mput, withPlains, windowWritten, putTo}
 use Rattle.rules.proofs.Slots.{with-plains}
@@ -116,13 +116,12 @@ block-within t regs l b i f e =
 
 -- ---- a record that is ready
 
-module _ (t : Target) (s : Scan) (mem regs : List ℕ) (r : Ready house t s mem regs) where
+module _ (t : Target) (s : Scan) (mem regs : List ℕ) (r : ReadyAll house t s mem regs) where
   pub ready-listed : Blocks t regs
   ready-listed = record {
-    few = fit-few house t mem (r .fit);
-    registers = r .registers;
-    current = tests-of t mem
-        (r .fit) .current;
+    few = fit-few house t mem (r .0 .fit);
+    registers = r .1;
+    current = tests-of t mem (r .0 .fit) .current;
   }
 
 -- ---- the replies
@@ -130,12 +129,12 @@ module _ (t : Target) (s : Scan) (mem regs : List ℕ) (r : Ready house t s mem 
 module _ (w : World) (reply : List ℕ) where
   -- refused: all unchanged
   pub refuses : (r : Reason) → reply ≡ bytesOf (Rerr r) → outcome 0 Nothing w reply ≡ error r w
-  unfolding error replied
+  unfolding error repliedWith
   refuses r e = ap (outcome 0 Nothing w) e
 
   module _ (got : List ℕ) (e : reply ≡ bytesOf (Rmget (data9Of got))) (addr n : ℕ) where
     answers : (l : List ℕ) → got ≡ l → outcome 0 Nothing w reply ≡ replied (Rmget (data9Of l)) w
-    unfolding replied
+    unfolding repliedWith
     answers l h = rw (e, h)
 
     pub got-window : got ≡ plainRead 2 (sites (w .target)) (plains (w .target)) (w .mem) (addr - w .target .base) n 9
@@ -168,9 +167,9 @@ module _ (w : World) (addr n : ℕ) where
 -- ---- the plain bytes of a record's table
 
 -- a scan's plain bytes are sixteen, before a write and after it
-pub sixteen : (t : Target) (vs : List Val) (s : Scan) (mem regs : List ℕ) → Is target.the-row t vs
-    → Ready house t s mem regs → 16 ≡ length (s .plain)
-sixteen t vs s mem regs h r =
+pub sixteen : (t : Target) (vs : List Val) (s : Scan) (mem : List ℕ) → Is target.the-row t vs
+    → Ready house t s mem → 16 ≡ length (s .plain)
+sixteen t vs s mem h r =
     sym (ap length (r .plain) ∙ sixteen-plains (t .table .entries) (eight-entries t vs h) (two-each t vs h))
 
 pub length-after : (w : ℕ) (ss ps : List ℕ) (at : ℕ) (bytes plain : List ℕ) → plain
@@ -194,7 +193,7 @@ module _ (w : World) (addr : ℕ) (bytes : List ℕ) where
   pub put-block : 3 < addr → (b : Block) (i : ℕ) → b ≡ blockOf (w .target) → b ≡ block.At i → (regs reply : List ℕ)
       → regs ≡ overwritten (w .regs) (136 * i + addr) bytes → reply ≡ bytesOf Rmput
       → outcome 0 Nothing (world (w .target) (w .mem) regs) reply ≡ putTo Registers w addr bytes
-  unfolding putTo replied onIt
+  unfolding putTo repliedWith onIt
   put-block h b i f t regs reply e r = rw (e, r, lt-leb addr 3 h) (on-it w _ (block.At i) b f t)
 
   module _ (ss ps : List ℕ) (e : ss ≡ sites (w .target)) (f : ps ≡ plains (w .target)) (mem plain reply : List ℕ)
@@ -204,7 +203,7 @@ module _ (w : World) (addr : ℕ) (bytes : List ℕ) where
     -- the window's bytes, and the table with the slots' bytes taken
     pub put-window : outcome 0 Nothing (world (applied (w .target) Plain plain) mem (w .regs)) reply
         ≡ putTo Window w addr bytes
-    unfolding putTo replied windowWritten applied
+    unfolding putTo repliedWith windowWritten applied
     put-window = rw (m, p, r, e, f)
 
     -- where no slot's byte changed, the record is as it was
@@ -220,7 +219,7 @@ module _ (w : World) (addr : ℕ) (bytes : List ℕ) where
 
 module _ (w : World) (addr n : ℕ) (d : Data4) where
   pub put-none : n ≡ 0 → (reply : List ℕ) → reply ≡ bytesOf Rmput → outcome 0 Nothing w reply ≡ mput w addr n d
-  unfolding mput replied
+  unfolding mput repliedWith
   put-none z reply r = rw (eq-eqb n 0 z, r)
 
   -- what is put to the place that the address names

@@ -1,5 +1,6 @@
 // Tmget and Tmput, over a fit record and its table as arrays.
 use memory::Place;
+use rules::Answer;
 use step_effect::Change;
 use step_effect::Served;
 use target::Process;
@@ -23,7 +24,7 @@ ghost use Rattle.wire.specs.Message.{bytesOf};
 ghost use Rattle.wire.specs.declared.Message.the-variants as message;
 ghost use Rattle.rules.specs.declared.Answer.the-variants.{Nothing};
 ghost use Rattle.rules.specs.Outcome.{world, outcome};
-ghost use Rattle.step_effect.specs.Ready.{Ready, servedOutcome};
+ghost use Rattle.step_effect.specs.Ready.{ReadyAll, servedOutcome};
 ghost use Rattle.rules.specs.Request.{data9Of, putTo, mget as mgetOf, mput as mputOf};
 ghost use Rattle.request_memory.specs.Access.{Blocks, blockOf, blockPart, blockReply};
 
@@ -105,7 +106,7 @@ fn block_reply(block: Block, part: &[u8]) -> [u8; 10]
 
 // Tmget: the stretch that the address names is a part of the block or of the window, read as it is or under traps.
 pub fn mget<'a>(t: Target, s: Scan, mem: &'a [u8], regs: &'a [u8], addr: u32, n: u8) -> [u8; 10]
-    requires { ⌜ Ready house t s (now mem) (now regs) ⌝ }
+    requires { ⌜ ReadyAll house t s (now mem) (now regs) ⌝ }
     ensures { λ r. ⌜ outcome 0 Nothing (world t (now (mem .entry)) (now (regs .entry))) r
         ≡ mgetOf (world t (now (mem .entry)) (now (regs .entry))) addr n ⌝ }
 {
@@ -156,7 +157,7 @@ pub fn mput(
     n: u8,
     d: Data4,
 ) -> Served
-    requires { ⌜ Ready house t s (now mem) (now regs) ⌝ }
+    requires { ⌜ ReadyAll house t s (now mem) (now regs) ⌝ }
     requires { ⌜ n ≤ 4 ⌝ }
     ensures { λ r. ⌜ servedOutcome t r (now (mem .exit)) (now (regs .exit))
         ≡ mputOf (world t (now (mem .entry)) (now (regs .entry))) addr n d ⌝ }
@@ -182,6 +183,7 @@ pub fn mput(
                 return Served::with(Change::Same, rmput);
             }
             Served {
+                answer: Answer::Nothing,
                 change: Change::Plain,
                 plain: plain,
                 bytes: rmput,

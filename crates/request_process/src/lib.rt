@@ -2,7 +2,6 @@
 use step_effect::Change;
 use step_effect::Served;
 use target::Process;
-use target::Table;
 use target::Target;
 use target_fit::Lookup;
 use target_fit::Scan;
@@ -10,14 +9,15 @@ use wire::Message;
 use wire_text::Reason;
 ghost use mathlib.Core.Path.{_≡_};
 ghost use mathlib.Core.List.{List};
-ghost use Prim.Native.Nat.{ℕ, _≤_};
-ghost use Rattle.memory.specs.Head.{house};
+ghost use Prim.Native.Nat.{ℕ, _*_, _≤_};
+ghost use lib.ListN.{length};
 ghost use Rattle.target.specs.declared.Target.{Target};
 ghost use Rattle.rules.specs.Outcome.{world, error};
-ghost use Rattle.step_effect.specs.Ready.{Ready, servedOutcome};
+ghost use Rattle.step_effect.specs.Ready.{servedOutcome};
 ghost use Rattle.rules.specs.Request.{proc as procOf, status as statusOf, rnote as rnoteOf};
 ghost use Rattle.rules.specs.Request.{stop as stopOf, start as startOf};
-ghost use Rattle.target.specs.Limits.{maxProcesses};
+ghost use Rattle.breakpoint.specs.Breaks.{Findable};
+ghost use Rattle.target.specs.Limits.{blockSize, maxProcesses};
 ghost use Rattle.wire_text.specs.declared.Reason.the-variants as reason;
 
 fn no_process() -> Served
@@ -90,11 +90,12 @@ pub fn stop(t: Target, pid: u32) -> Served
     Served::with(Change::State(i, p.state, 1), bytes)
 }
 
-// Tstart: clears the mark; a Stopped process becomes Ready, and a breakpoint at its saved pc is removed.
-pub fn start<'a>(t: Target, s: Scan, mem: &'a mut [u8], regs: &'a [u8], pid: u32) -> Served
-    requires { ⌜ Ready house t s (now mem) (now regs) ⌝ }
-    ensures { λ r. ⌜ servedOutcome t r (now (mem .exit)) (now (regs .entry))
-        ≡ startOf (world t (now (mem .entry)) (now (regs .entry))) pid ⌝ }
+// Tstart: clears the mark; a Stopped process becomes Ready, with the plain bytes of the breakpoint at its saved pc.
+pub fn start(t: Target, s: Scan, regs: &[u8], pid: u32) -> Served
+    requires { ⌜ Findable t s ⌝ }
+    requires { ⌜ (t .count ≤ maxProcesses) × (length (now regs) ≡ blockSize * t .count) ⌝ }
+    ensures { λ r. ⌜ ((mem : List ℕ) → servedOutcome t r mem (now (regs .entry))
+        ≡ startOf (world t mem (now (regs .entry))) pid) ⌝ }
 {
     let found = target_fit::find(t, pid);
     let Lookup::At(i, p) = found else {
@@ -105,10 +106,6 @@ pub fn start<'a>(t: Target, s: Scan, mem: &'a mut [u8], regs: &'a [u8], pid: u32
         return Served::with(Change::State(i, p.state, 0), bytes);
     }
     let pc = common::word_at(regs, Process::BLOCK * i + Process::PC);
-    let k = breakpoint::breakpoint_at(t, s, pc);
-    if Table::ENTRIES <= k {
-        return Served::with(Change::State(i, Process::READY, 0), bytes);
-    }
-    breakpoint::put_back(t, s, mem, k);
-    Served::with(Change::Start(i, k), bytes)
+    let answer = breakpoint::pass_at(t, s, pc);
+    Served::answering(answer, Change::State(i, Process::READY, 0), bytes)
 }

@@ -14,12 +14,12 @@ ghost use Rattle.memory.specs.Head.{house};
 ghost use Rattle.target.specs.declared.Target.{Target};
 ghost use Rattle.wire.specs.Message.{isMessage};
 ghost use Rattle.rules.specs.Outcome.{world};
-ghost use Rattle.step_effect.specs.Ready.{Ready, servedOutcome};
+ghost use Rattle.step_effect.specs.Ready.{ReadyAll, servedOutcome};
 ghost use Rattle.rules.specs.Request.{drops, refusedBy, serve as serveOf};
 
 // A request that is a message.
 pub fn serve(t: Target, s: Scan, mem: &mut [u8], regs: &mut [u8], m: Message) -> Served
-    requires { ⌜ Ready house t s (now mem) (now regs) ⌝ }
+    requires { ⌜ ReadyAll house t s (now mem) (now regs) ⌝ }
     requires { ⌜ isMessage m ≡ true ⌝ }
     ensures { λ r. ⌜ servedOutcome t r (now (mem .exit)) (now (regs .exit))
         ≡ serveOf house (world t (now (mem .entry)) (now (regs .entry))) m ⌝ }
@@ -33,8 +33,8 @@ pub fn serve(t: Target, s: Scan, mem: &mut [u8], regs: &mut [u8], m: Message) ->
         Message::Tstatus { pid } => request_process::status(t, pid),
         Message::Trnote { pid } => request_process::rnote(t, pid),
         Message::Tstop { pid } => request_process::stop(t, pid),
-        Message::Tstart { pid } => request_process::start(t, s, mem, regs, pid),
-        Message::Tcondbreak { val, op } => request_condbreak::condbreak(t, s, mem, regs, val, op),
+        Message::Tstart { pid } => request_process::start(t, s, regs, pid),
+        Message::Tcondbreak { val, op } => request_condbreak::condbreak(t, s, mem, val, op),
         _ => Served::with(
             Change::Same,
             wire::bytes_of(Message::Rerr {

@@ -4,25 +4,25 @@ use mathlib.Core.Bool.{Bool, false, cond, true}
 use mathlib.Core.List.{List, []}
 use Prim.Native.Nat.{ℕ, _-_, _≤_, _<_}
 use native.Mathlib.Omega.{arith}
-use borrow.Author.Tests.{ltb-true, ltb-false, lt-ltb, not-true}
-use lib.Dec.{ltb, eqb}
+use borrow.Author.Tests.{lt-ltb, not-true}
+use lib.Dec.{eqb}
 use lib.ListN.{length, take}
-use Rattle.common.specs.First.{firstOf}
-use Rattle.target_fit.specs.Fit.{processAt, entryOf}
+use Rattle.target_fit.specs.Fit.{entryOf}
 use Rattle.memory.specs.Head.{Head}
 use Rattle.memory.specs.Place.{placeOf}
 use Rattle.memory.specs.declared.Place.the-variants.{Window}
-use Rattle.common.proofs.Cases.{on-test, choose}
+use Rattle.common.proofs.Cases.{on-test}
 use Rattle.request_parse.specs.declared.Parsed.{Parsed}
 use Rattle.target.specs.declared.Target.{Target}
 use Rattle.wire.specs.Message.{bytes4, bytesOf, typeOf}
 use Rattle.wire.specs.declared.Data4.{Data4}
 use Rattle.wire.specs.declared.Message.{Message}
-use Rattle.rules.specs.Outcome.{World, world, Outcome, replied, error}
-use Rattle.rules.specs.Record.{withDraft, ready, indexOf, setState, isStopped, blockAt, pcOf}
-use Rattle.rules.specs.Breakpoint.{breakpointAt, planted, removed, removedAt}
+use Rattle.rules.specs.declared.Answer.{Answer}
+use Rattle.rules.specs.Outcome.{World, world, Outcome, repliedWith, error}
+use Rattle.rules.specs.Record.{withDraft, ready, indexOf, setState, isStopped}
+use Rattle.rules.specs.Breakpoint.{planted, removed}
 use Rattle.rules.specs.Request.{windowWritten}
-use Rattle.rules.specs.Book.{Book, withBreakpoints, withStopped, removing, others, intoWindow, inWindow}
+use Rattle.rules.specs.Book.{Book, withBreakpoints, removing, others, intoWindow, inWindow}
 use Rattle.rules.specs.Book.{bookWrite, bookStart}
 use Rattle.rules.specs.Step.{Setup}
 use Rattle.rules.specs.Book.{bookServed, bookRequest, Pending, withPending, joins, sets, bookCondbreak}
@@ -30,11 +30,9 @@ use Rattle.rules.specs.Step.{isAccepted}
 use Rattle.rules.proofs.FitFacts.{facts-of}
 use Rattle.rules.proofs.Agree.{dressed, Follows, Agree, pendingOf, Drafted}
 use Rattle.rules.proofs.Laid.{same-place, in-window}
-use Rattle.rules.proofs.Halted.{pid-place, among-others, among-gone}
-use Rattle.rules.proofs.Found.{used-at, at-site, at-first, used-id, id-is}
-use Rattle.rules.proofs.KeptProcesses.{mark-none}
-use Rattle.rules.proofs.KeptWorld.{good-state}
-use Rattle.rules.proofs.Moves.{move-current, its-state, move-named, move-kept, move-removed, move-none}
+use Rattle.rules.proofs.Halted.{among-others, among-gone}
+use Rattle.rules.proofs.Found.{used-id, id-is}
+use Rattle.rules.proofs.Moves.{move-current, move-named, move-kept, move-removed}
 use Rattle.rules.proofs.Moves.{move-written, drafted-none}
 use Rattle.rules.proofs.Moves.{move-draft, move-planted}
 use mathlib.Core.Option.{Option, none, some}
@@ -57,40 +55,6 @@ joins-both : (d : Draft) (o : Option Pending) (e : Element) → d .count < lengt
 unfolding withElement joins pendingOf
 joins-both d o e room v h =
     rw (v h, add-one (d .count), take-suc-set (d .elements) (d .count) e room)
-
--- the breakpoint at an address goes from the table and from the book
-module _ {head : Head} (s : Setup) (b : Book) (t : Target) (mem regs : List ℕ) (a : Agree head s b t mem) where
-  -- at an address that is no breakpoint's
-  left-none : (address : ℕ) → length (t .table .entries) ≤ breakpointAt (t .table .entries) address
-      → Follows s (withBreakpoints b (removing (λ x. eqb (x .site) address) (b .breakpoints))) t mem
-  unfolding dressed
-  left-none address h =
-      let es = t .table .entries in
-      let size : length es ≡ 8 = a .good .shaped .entries in
-      move-none s b t mem (a .follows) (a .good) regs (λ x. x .site) address
-      (λ j u q. let below : j < length es = omega (arith, u .0) in omega (arith, at-first es address j below (u .1) q))
-
-  -- at a breakpoint's
-  left-one : (address : ℕ) → breakpointAt (t .table .entries) address < length (t .table .entries)
-      → let o = removed (world t mem regs) (breakpointAt (t .table .entries) address) in
-      Follows s (withBreakpoints b (removing (λ x. eqb (x .site) address) (b .breakpoints))) (o .target) (o .mem)
-  unfolding dressed
-  left-one address h =
-      let es = t .table .entries in
-      move-removed s b t mem (a .follows) (a .good) regs (λ x. x .site) address _
-      (used-at es address (a .good .shaped .entries) h)
-      (at-site es address h) (facts-of t mem (a .good) .sitesDiffer)
-
-  left-at : (address : ℕ)
-      → let o = removedAt (world t mem regs) address in
-      Follows s (withBreakpoints b (removing (λ x. eqb (x .site) address) (b .breakpoints))) (o .target) (o .mem)
-  unfolding removedAt
-  left-at address =
-      let P : World → Type 0 =
-      λ o. Follows s (withBreakpoints b (removing (λ x. eqb (x .site) address) (b .breakpoints))) (o .target)
-      (o .mem) in
-      choose P (ltb (breakpointAt (t .table .entries) address) (length (t .table .entries)))
-      (λ e. left-one address (ltb-true _ _ e)) (λ e. left-none address (ltb-false _ _ e))
 
 module _ {head : Head} (s : Setup) (b : Book) (t : Target) (mem regs : List ℕ) (a : Agree head s b t mem) where
   abbrev w : World
@@ -117,35 +81,15 @@ module _ {head : Head} (s : Setup) (b : Book) (t : Target) (mem regs : List ℕ)
       on-test (inWindow s addr n) (λ e. let i = in-window s b t mem a addr n e in
       absurd (out (i .0) (i .1))) (λ e. rw e v)
 
-  -- ---- Tstop and Tstart
+  -- ---- Tstart
 
-  -- its block is the one that the book looks at
-  its-block : (pid : ℕ) → blockAt regs (firstOf (eqb pid) (take (s .count) (s .pids))) ≡ blockAt regs (indexOf t pid)
-  its-block pid = ap (λ l. blockAt regs (firstOf (eqb pid) l)) (sym (v .pids))
-      ∙ ap (blockAt regs) (pid-place (t .processes) (t .count) pid)
-
-  -- a Stopped process is Ready, and then the breakpoint at its saved pc goes
-  after-started : (pid : ℕ) → indexOf t pid < t .count → isStopped (processAt (t .processes) (indexOf t pid)) ≡ true
-      → let o = removedAt (world (setState t (indexOf t pid) ready 0) mem regs) (pcOf (blockAt regs (indexOf t pid))) in
-      Follows s (bookStart s b regs pid) (o .target) (o .mem)
-  unfolding bookStart withStopped
-  after-started pid h e =
-      rw (sym (its-state s b t mem v (a .good) pid h) ∙ e, its-block pid)
-      (left-at s (withStopped b (others pid (b .stopped))) (setState t (indexOf t pid) ready 0) mem regs
-      (record {
-        good = good-state w (a .good) (indexOf t pid) ready 0 h (mark-none ready);
-        follows = move-named s b t mem v (a .good) pid h ready 0 (others pid (b .stopped))
-            (sym (among-gone pid (b .stopped)))
-            (λ y n. among-others pid y (b .stopped) n);
-      })
-      (pcOf (blockAt regs (indexOf t pid))))
-
-  after-cleared : (pid : ℕ) → indexOf t pid < t .count → isStopped (processAt (t .processes) (indexOf t pid)) ≡ false
-      → Follows s (bookStart s b regs pid)
-      (setState t (indexOf t pid) (processAt (t .processes) (indexOf t pid) .state) 0) mem
-  unfolding bookStart isStopped
-  after-cleared pid h e =
-      rw (sym (its-state s b t mem v (a .good) pid h) ∙ e) (move-kept s b t mem v (a .good) pid h _ 0 refl)
+  -- a process that is not Stopped afterwards
+  after-start : (pid state : ℕ) → indexOf t pid < t .count → eqb state 8 ≡ false
+      → Follows s (bookStart b pid) (setState t (indexOf t pid) state 0) mem
+  unfolding bookStart
+  after-start pid state h e =
+      move-named s b t mem v (a .good) pid h state 0 (others pid (b .stopped)) (e ∙ sym (among-gone pid (b .stopped)))
+      (λ y n. among-others pid y (b .stopped) n)
 
   -- ---- Tcondbreak
 
@@ -189,8 +133,8 @@ module _ {head : Head} (s : Setup) (b : Book) (t : Target) (mem regs : List ℕ)
 
   -- ---- every request
 
-  after-left : {p : Parsed} {q : Message} {o : World} → RequestCase head w p q o
-      → Follows s (bookRequest s b regs p) (o .target) (o .mem)
+  after-left : {p : Parsed} {x : Answer} {q : Message} {o : World} → RequestCase head w p x q o
+      → Follows s (bookRequest s b p) (o .target) (o .mem)
   unfolding bookRequest bookServed bookCondbreak isStopped
   after-left (got d h) = v
   after-left (put h p) = after-put _ _ _ h p
@@ -200,8 +144,8 @@ module _ {head : Head} (s : Setup) (b : Book) (t : Target) (mem regs : List ℕ)
   after-left noted = v
   after-left halted = v
   after-left (marked h e) = move-kept s b t mem v (a .good) _ h _ 1 refl
-  after-left (started h e) = after-started _ h e
-  after-left (cleared h e) = after-cleared _ h e
+  after-left (started h e) = after-start _ ready h refl
+  after-left (cleared h e) = after-start _ _ h e
   after-left (begins n x y z) = rw n (after-begun _)
   after-left (plants n b′ h x y) = rw (n, b′) (after-planted _ h)
   after-left (removes n b′ d x y) = rw (n, b′, d) (after-deleted _ x y)
@@ -209,8 +153,8 @@ module _ {head : Head} (s : Setup) (b : Book) (t : Target) (mem regs : List ℕ)
 
   -- an accepted one feeds the book, and one that is refused does not
   pub after-served : {d : Bool} {p : Parsed} {o : Outcome} → RequestOutcome w d (RequestCase head w p) o
-      → Follows s (cond (isAccepted (o .number) (o .reply)) (bookRequest s b regs p) b) (o .after .target)
+      → Follows s (cond (isAccepted (o .number) (o .reply)) (bookRequest s b p) b) (o .after .target)
       (o .after .mem)
-  unfolding isAccepted replied error bytesOf typeOf
-  after-served (serving m x h e l) = rw e (after-left l)
+  unfolding isAccepted repliedWith error bytesOf typeOf
+  after-served (serving y m x h e l) = rw e (after-left l)
   after-served {d = d} (failing r) = after-unless d

@@ -7,10 +7,11 @@ use lib.Dec.{eqb}
 use Rattle.target_fit.specs.Fit.{stopped}
 use Rattle.memory.specs.Head.{Head}
 use Rattle.target.specs.declared.Target.{Target}
-use Rattle.rules.specs.Outcome.{World, world, answered, refused, replied}
+use Rattle.rules.specs.Outcome.{World, world, answered, refused, repliedWith}
 use Rattle.rules.specs.Record.{indexOf, stopWith}
 use Rattle.rules.specs.Event.{restart}
 use Rattle.rules.specs.Step.{Step, request, trapEvent, scheduleEvent, stateEvent, restartStep, stepOf}
+use Rattle.rules.specs.Breakpoint.{passOf}
 use Rattle.rules.specs.Book.{Book, withStopped, bookAnswer, fed}
 use Rattle.rules.specs.Step.{Setup, isAccepted}
 use Rattle.rules.proofs.Agree.{Follows, Agree}
@@ -49,7 +50,7 @@ module _ {head : Head} (s : Setup) (b : Book) (t : Target) (mem regs : List ℕ)
   -- an accepted event
   after-heard : {e : Step} {x : Answer} {o : World} → EventCase head w e x o
       → Follows s (fed s b e 0 x []) (o .target) (o .mem)
-  unfolding fed bookAnswer withStopped
+  unfolding fed bookAnswer withStopped passOf
   after-heard (caught {block = block} h k e) = now-stopped _ block h
   after-heard (released k e) = v
   after-heard (yielded {block = block} h) = now-stopped _ block h
@@ -60,7 +61,7 @@ module _ {head : Head} (s : Setup) (b : Book) (t : Target) (mem regs : List ℕ)
 pub after-step : {head : Head} (s : Setup) (b : Book) (t : Target) (mem : List ℕ) → Agree head s b t mem → (e : Step)
     → let o = stepOf head t mem e in
     Follows s (fed s b e (o .number) (o .answer) (o .reply)) (o .after .target) (o .after .mem)
-unfolding fed refused answered restart replied
+unfolding fed refused answered restart repliedWith
 after-step s b t mem a =
     by-step t mem (λ e o. Follows s (fed s b e (o .number) (o .answer) (o .reply)) (o .after .target) (o .after .mem))
     (λ e n h three. rw (unfed s b e n (bufferOf e) h) (a .follows))

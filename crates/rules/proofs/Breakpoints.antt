@@ -129,14 +129,6 @@ listed-more es l k e size below free used v = record {
 -- ---- breakpoints taken out of both by a test
 
 module _ (f : Breakpoint → Bool) (es : List Entry) (l : List Breakpoint) where
-  -- the test fails at every one
-  pub listed-all : ((j : ℕ) → UsedIn es j → f (dressed (entryAt es j)) ≡ false) → SameBreakpoints es l
-      → SameBreakpoints es (removing f l)
-  listed-all fails v = record {
-    into = λ j u. member-left f l _ (v .into j u) (fails j u);
-    from = λ x m. v .from x (left-member f l x m .0);
-  }
-
   -- the test holds at the one in entry k, which becomes free
   pub listed-less : (k : ℕ) → length es ≡ 8 → UsedIn es k → f (dressed (entryAt es k)) ≡ true
       → ((j : ℕ) → UsedIn es j → f (dressed (entryAt es j)) ≡ true → j ≡ k)

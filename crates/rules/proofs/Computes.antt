@@ -24,10 +24,11 @@ use Rattle.target_fit.specs.Fit.{windowFit, pidFit, processesFit, apart, siteFi
 use Rattle.target_fit.specs.Fit.{markFit, marksFit}
 use Rattle.target_fit.specs.Fit.{processOf, currentFit, entryOf, draftTest, draftFit, fitOf}
 use Rattle.target.specs.Free.{isFree, firstFree}
-use Rattle.rules.specs.Outcome.{shown, shownWith, answerBytes, refused, answered, replied, error}
+use Rattle.rules.specs.Outcome.{shown, shownWith, answerBytes, refused, answered, repliedWith, error}
 use Rattle.rules.specs.Record.{withTable, withProcesses, withCurrent, withDraft, withEntries}
 use Rattle.rules.specs.Record.{withState, setState, isStopped, saved, pcOf, blockAt, stopWith}
-use Rattle.rules.specs.Breakpoint.{isAt, breakpointAt, madeEntry, planted, removed, removedAt}
+use Rattle.rules.specs.Breakpoint.{isAt, breakpointAt, madeEntry, planted, removed, passOf}
+use Rattle.rules.specs.Breakpoint.{passAt}
 use Rattle.rules.specs.Condition.{dropped, failed, inHand, begun, beginCondition, joined, addElement, siteFree}
 use Rattle.rules.specs.Condition.{setBreakpoint, deleteBreakpoint, condbreak}
 use Rattle.rules.specs.Request.{onBlock, data9Of, gotFrom, mget, withPlains, windowWritten, putTo, mput}
@@ -41,11 +42,12 @@ use Rattle.rules.specs.Worked.{shownBy, after}
 use Rattle.rules.specs.Step.{isAccepted}
 use Rattle.rules.specs.Book.{opened, realBy, sitesBy, trapBy, trapNumber, answerAmong, answerOf, fetchBy, readBy}
 use Rattle.rules.specs.Book.{withPlain, withPending, withBreakpoints, withStopped, removing, others, joins}
-use Rattle.rules.specs.Book.{bookStart, bookAnswer}
+use Rattle.rules.specs.Book.{bookStart, bookAnswer, passBy, startBy}
 use Rattle.rules.specs.Book.{intoWindow, inWindow, bookWrite, sets, bookCondbreak, bookServed, bookRequest, fed}
 use Rattle.rules.specs.Claim.{Says}
 use Rattle.rules.specs.Stubs.{kindNumber, changing, rerrAlways, zerosAlways, requestLeaving, storesNothing}
 use Rattle.rules.specs.Stubs.{plantsFirstOnly, plantsNothing}
+use Rattle.rules.specs.Stubs.{removesAtStart, answersNothing}
 use Rattle.rules.specs.Stubs.{readsReal, findsNoSite, neverStops, acceptsStates, answersStates, zeroRestart}
 use Rattle.rules.specs.Stubs.{keepsTraps, alwaysUnfit}
 use Rattle.rules.specs.Stubs.{passed, SaysAfter, RealAfter}
@@ -57,9 +59,9 @@ unfolding shownBy after shown shownWith answerBytes
     onProcess proc status rnote stop start
     condbreak beginCondition begun addElement joined setBreakpoint siteFree deleteBreakpoint inHand failed dropped
     onListed trap trapped holds schedule state restart restarted
-    breakpointAt isAt madeEntry planted removed removedAt
+    breakpointAt isAt madeEntry planted removed passOf passAt
     withTable withProcesses withCurrent withDraft withEntries withState setState isStopped saved pcOf blockAt stopWith
-    error replied answered refused
+    error repliedWith answered refused
     fitOf windowFit processesFit pidFit entriesFit slotFit entryFit siteFit apart marksFit markFit currentFit processOf
     draftFit draftTest
     entryOf idOf siteOf idsOf sitesOf plainsOf isFree firstFree
@@ -77,7 +79,8 @@ unfoldable pub claim-computes : ℕ
 unfolding steps-compute SaysAfter RealAfter Says passed opened fed isAccepted bookRequest bookServed bookCondbreak
     bookWrite bookStart bookAnswer inWindow intoWindow sets joins removing others withPlain withPending withBreakpoints
     withStopped
-    realBy sitesBy trapBy trapNumber answerAmong answerOf fetchBy readBy
+    realBy sitesBy trapBy trapNumber answerAmong answerOf passBy startBy fetchBy readBy
     kindNumber changing rerrAlways zerosAlways requestLeaving storesNothing plantsFirstOnly plantsNothing
-    readsReal findsNoSite neverStops acceptsStates answersStates zeroRestart keepsTraps alwaysUnfit
+    readsReal removesAtStart answersNothing findsNoSite neverStops acceptsStates answersStates zeroRestart keepsTraps
+    alwaysUnfit
 claim-computes = 0

@@ -15,7 +15,7 @@ use Rattle.request_parse.specs.declared.Parsed.{Parsed}
 use Rattle.target.specs.declared.Target.{Target}
 use Rattle.wire.specs.declared.Message.{Message}
 use Rattle.rules.specs.declared.Answer.{Answer}
-use Rattle.rules.specs.Outcome.{World, world, Outcome, refused, answered, replied, error}
+use Rattle.rules.specs.Outcome.{World, world, Outcome, refused, answered, repliedWith, error}
 use Rattle.rules.specs.Record.{ready, isStopped}
 use Rattle.rules.specs.Breakpoint.{sites}
 use Rattle.rules.specs.Condition.{dropped}
@@ -36,7 +36,7 @@ use Rattle.rules.proofs.KeptProcesses.{mark-none, mark-one, mark-kept, 
 use Rattle.rules.proofs.KeptTable.{fresh-parts}
 use Rattle.rules.proofs.KeptWorld.{GoodWorld, good-dropped, good-begun, good-joined, good-state, good-stopped}
 use Rattle.rules.proofs.KeptWorld.{good-removed}
-use Rattle.rules.proofs.KeptWorld.{good-removed-at, good-planted, good-window}
+use Rattle.rules.proofs.KeptWorld.{good-planted, good-window}
 
 -- what is claimed of a step's outcome: it leaves a good world, and its number is not 3
 pub record Fine (head : Head) (o : Outcome) : Type 0 where
@@ -47,7 +47,7 @@ pub record Fine (head : Head) (o : Outcome) : Type 0 where
 
 module _ {head : Head} (w : World) (g : GoodWorld head w) where
   -- an accepted request
-  good-left : {p : Parsed} {q : Message} {v : World} → RequestCase head w p q v → GoodWorld head v
+  good-left : {p : Parsed} {x : Answer} {q : Message} {v : World} → RequestCase head w p x q v → GoodWorld head v
   unfolding currentFit isStopped
   good-left (got d h) = g
   good-left (put h p) = good-window w g _ _
@@ -57,7 +57,7 @@ module _ {head : Head} (w : World) (g : GoodWorld head w) where
   good-left noted = g
   good-left halted = g
   good-left (marked h e) = good-state w g _ _ 1 h (mark-one _ e)
-  good-left (started h e) = good-removed-at _ (good-state w g _ ready 0 h (mark-none ready)) _
+  good-left (started h e) = good-state w g _ ready 0 h (mark-none ready)
   good-left (cleared h e) = good-state w g _ _ 0 h (mark-none _)
   good-left (begins n s e f) = good-begun w g _ s e f
   good-left (plants n b h s f) = good-planted w g _ h s f
@@ -77,7 +77,7 @@ module _ {head : Head} (w : World) (g : GoodWorld head w) where
 
   -- a restart
   good-restarted : GoodWorld head (restart w .after)
-  unfolding restart replied
+  unfolding restart repliedWith
   good-restarted =
       let t = w .target in
       let c = parts-of t (w .mem) g in
@@ -92,12 +92,12 @@ module _ {head : Head} (w : World) (g : GoodWorld head w) where
   good-unless false = g
 
   fine-served : {d : Bool} {p : Parsed} {o : Outcome} → RequestOutcome w d (RequestCase head w p) o → Fine head o
-  unfolding replied error
-  fine-served (serving m v h e l) = record { good = good-left l; notThree = omega arith }
+  unfolding repliedWith error
+  fine-served (serving x m v h e l) = record { good = good-left l; notThree = omega arith }
   fine-served {d = d} (failing r) = record { good = good-unless d; notThree = omega arith }
 
 fine-step : {head : Head} (t : Target) (mem : List ℕ) (e : Step) → Good head t mem → Fine head (stepOf head t mem e)
-unfolding refused answered restart replied
+unfolding refused answered restart repliedWith
 fine-step {head} t mem e g =
     by-step t mem (λ e o. Fine head o) (λ e n h three. record { good = g; notThree = three (g .fit) })
     (λ regs bytes reply o x. fine-served (world t mem regs) g x)

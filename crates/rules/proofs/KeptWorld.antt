@@ -4,10 +4,9 @@ use mathlib.Core.Bool.{true, false}
 use mathlib.Core.List.{List}
 use Prim.Native.Nat.{ℕ, _+_, _-_, _≤_, _<_}
 use native.Mathlib.Omega.{arith}
-use borrow.Author.Tests.{ltb-true, not-true}
+use borrow.Author.Tests.{not-true}
 use lib.Dec.{leb, ltb, eqb}
 use lib.ListN.{length}
-use Rattle.common.proofs.Cases.{choose}
 use Rattle.common.proofs.Same.{parts}
 use Rattle.condition.specs.Depth.{wellFormed}
 use Rattle.condition.specs.Add.{roomFor, withElement}
@@ -19,11 +18,11 @@ use Rattle.target.specs.Free.{isFree, firstFree}
 use Rattle.target.specs.declared.Element.{Element}
 use Rattle.rules.specs.Outcome.{World}
 use Rattle.rules.specs.Record.{withDraft, setState, stopWith}
-use Rattle.rules.specs.Breakpoint.{breakpointAt, madeEntry, planted, removed, removedAt}
+use Rattle.rules.specs.Breakpoint.{breakpointAt, madeEntry, planted, removed}
 use Rattle.rules.specs.Condition.{dropped, inHand, begun, siteFree}
 use Rattle.rules.specs.Request.{windowWritten}
 use Rattle.rules.proofs.Facts.{Used, Good}
-use Rattle.rules.proofs.Found.{free-found, used-at, at-first, id-first}
+use Rattle.rules.proofs.Found.{free-found, at-first, id-first}
 use Rattle.rules.proofs.Parts.{parts-of, good-processes}
 use Rattle.rules.proofs.KeptProcesses.{mark-none, state-parts}
 use Rattle.rules.proofs.KeptDraft.{closed-draft, hand-of, begun-draft, joined-draft}
@@ -81,14 +80,6 @@ module _ {head : Head} (w : World) (g : GoodWorld head w) where
   pub good-removed : (k : ℕ) → Used (w .target) k → GoodWorld head (removed w k)
   unfolding removed
   good-removed k u = good-freed (w .target) (w .mem) g k u
-
-  -- the one at an address is, where there is one
-  pub good-removed-at : (address : ℕ) → GoodWorld head (removedAt w address)
-  unfolding removedAt
-  good-removed-at address =
-      let es = w .target .table .entries in
-      choose (GoodWorld head) (ltb (breakpointAt es address) (length es))
-      (λ e. good-removed (breakpointAt es address) (used-at es address (g .shaped .entries) (ltb-true _ _ e))) (λ e. g)
 
   -- one is made
   pub good-planted : (site : ℕ) → inHand w ≡ true → siteFree w site ≡ true

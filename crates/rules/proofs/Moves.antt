@@ -14,7 +14,7 @@ use Rattle.memory.specs.Head.{Head}
 use Rattle.memory.specs.Overlay.{covered, plainOf}
 use Rattle.target_fit.specs.Arrays.{sitesOf, plainsOf}
 use Rattle.target.specs.declared.Table.{Table}
-use borrow.Author.Tests.{eq-eqb, ne-eqb, eqb-true}
+use borrow.Author.Tests.{eq-eqb, eqb-true}
 use Rattle.memory.specs.Write.{overwritten}
 use Rattle.memory_laws.proofs.Laws.{plain-set}
 use Rattle.target.specs.Free.{isFree, firstFree}
@@ -22,7 +22,7 @@ use Rattle.target.specs.Fresh.{closedDraft}
 use Rattle.target.specs.declared.Draft.{Draft}
 use Rattle.target.specs.declared.Process.{Process}
 use Rattle.target.specs.declared.Target.{Target}
-use Rattle.rules.specs.Outcome.{world, replied}
+use Rattle.rules.specs.Outcome.{world, repliedWith}
 use Rattle.rules.specs.Record.{withTable, withEntries, withProcesses, withCurrent, indexOf, setState, isStopped}
 use Rattle.rules.specs.Record.{withDraft}
 use Rattle.rules.specs.Breakpoint.{sites, plains, madeEntry, planted, removed}
@@ -36,7 +36,7 @@ use Rattle.rules.proofs.FitFacts.{facts-of}
 use Rattle.rules.proofs.Found.{free-found}
 use Rattle.rules.proofs.KeptDraft.{hand-of}
 use Rattle.rules.proofs.Agree.{dressed, SameBreakpoints, pendingOf, Drafted, pidsOf, Halted, Follows}
-use Rattle.rules.proofs.Breakpoints.{listed-fresh, listed-written, listed-more, listed-all, listed-less}
+use Rattle.rules.proofs.Breakpoints.{listed-fresh, listed-written, listed-more, listed-less}
 use Rattle.rules.proofs.Laid.{plain-removed, plain-planted, plain-overwritten, plain-fresh}
 use Rattle.rules.proofs.Halted.{listed, listed-pid, pids-stored, halted-stored, pids-restarted, halted-restarted}
 
@@ -146,16 +146,6 @@ module _ (s : Setup) (b : Book) (t : Target) (mem : List ℕ) (v : Follows s b t
         (λ j u q. differ j k u used (eqb-true _ _ q ∙ sym here)) (v .breakpoints))
         (v .draft)
 
-    -- none removed: none has it
-    pub move-none : (key : Breakpoint → ℕ) (x : ℕ)
-        → ((j : ℕ) → Used t j → key (dressed (entryAt (t .table .entries) j)) ≡ x → ⊥)
-        → Follows s (withBreakpoints b (removing (λ y. eqb (key y) x) (b .breakpoints))) t mem
-    unfolding withTable withBreakpoints
-    move-none key x nowhere =
-        move-table (t .table) mem _ _ _ (v .plain)
-        (listed-all _ (t .table .entries) (b .breakpoints) (λ j u. ne-eqb _ _ (nowhere j u)) (v .breakpoints))
-        (v .draft)
-
     -- the condition in hand set as a breakpoint
     pub move-planted : (site : ℕ) → eqb (t .table .draft .active) 0 ≡ false
         → Follows s (withBreakpoints (withPending b none) (sets (b .draft) site (b .breakpoints)))
@@ -188,7 +178,7 @@ module _ (s : Setup) (b : Book) (t : Target) (mem : List ℕ) (v : Follows s b t
   pub move-restart : (regs : List ℕ)
       → let o = restart (world t mem regs) in
       Follows s (withStopped (withBreakpoints b []) []) (o .after .target) (o .after .mem)
-  unfolding restart replied withStopped withBreakpoints
+  unfolding restart repliedWith withStopped withBreakpoints
   move-restart regs = record {
     base = v .base;
     size = v .size;

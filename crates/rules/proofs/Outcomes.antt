@@ -8,7 +8,7 @@ use Prim.Native.Nat.{ℕ, _-_, _*_, _≤_, _<_}
 use native.Mathlib.Omega.{arith}
 use borrow.Author.Tests.{ltb-true, eqb-true, eqb-false}
 use lib.Dec.{leb, ltb, eqb}
-use lib.ListN.{length, getD, take}
+use lib.ListN.{length, take}
 use Rattle.common.specs.Bytes.{lowFirst, highFirst}
 use Rattle.common.specs.Same.{allZero}
 use Rattle.common.specs.Text.{padded}
@@ -44,11 +44,11 @@ use Rattle.wire.specs.declared.Message.the-variants.{Tmget, Tmput, Tproc, Tstat
 use Rattle.wire.specs.declared.Message.the-variants.{Rerr, Rmget, Rmput, Rproc, Rstatus, Rrnote, Rstop, Rstart}
 use Rattle.wire.specs.declared.Message.the-variants.{Rcondbreak}
 use Rattle.rules.specs.declared.Answer.{Answer}
-use Rattle.rules.specs.declared.Answer.the-variants.{Nothing, Stop, Pass, Yes, No}
-use Rattle.rules.specs.Outcome.{World, world, Outcome, outcome, answered, replied, error, refused}
+use Rattle.rules.specs.declared.Answer.the-variants.{Nothing, Stop, Yes, No}
+use Rattle.rules.specs.Outcome.{World, world, Outcome, outcome, answered, repliedWith, error, refused}
 use Rattle.rules.specs.Record.{ready, withCurrent, withDraft, indexOf, setState, isStopped, pcOf, blockAt}
 use Rattle.rules.specs.Record.{stopWith}
-use Rattle.rules.specs.Breakpoint.{sites, plains, breakpointAt, planted, removed, removedAt}
+use Rattle.rules.specs.Breakpoint.{sites, plains, breakpointAt, planted, removed, passAt, passOf}
 use Rattle.rules.specs.Condition.{dropped, failed, inHand, begun, siteFree, joined, beginCondition, addElement}
 use Rattle.rules.specs.Condition.{setBreakpoint}
 use Rattle.rules.specs.Condition.{deleteBreakpoint, condbreak}
@@ -70,62 +70,63 @@ Known w pid = indexOf (w .target) pid < w .target .count
 abbrev pub processNamed : World → ℕ → Process
 processNamed w pid = processAt (w .target .processes) (indexOf (w .target) pid)
 
--- ---- an accepted request: its reply and the world that it leaves, with what the tests told
+-- ---- an accepted request: its answer, its reply and the world that it leaves, with what the tests told
 
-pub data RequestCase (head : Head) (w : World) : Parsed → Message → World → Type 0 where
+pub data RequestCase (head : Head) (w : World) : Parsed → Answer → Message → World → Type 0 where
   -- bytes read: of the window the plain ones
   got : {addr n : ℕ} (d : Data9)
       → (0 < n → placeOf (w .target .base) (w .target .size) addr n ≡ Window
       → d ≡ data9Of (plainRead 2 (sites (w .target)) (plains (w .target)) (w .mem) (addr - w .target .base) n 9))
-      → RequestCase head w (Request (Tmget addr n)) (Rmget d) w
+      → RequestCase head w (Request (Tmget addr n)) Nothing (Rmget d) w
   -- written to the window
   put : {addr n : ℕ} {d : Data4} → 0 < n → placeOf (w .target .base) (w .target .size) addr n ≡ Window
-      → RequestCase head w (Request (Tmput addr n d)) Rmput (windowWritten w addr (take n (bytes4 d)))
+      → RequestCase head w (Request (Tmput addr n d)) Nothing Rmput (windowWritten w addr (take n (bytes4 d)))
   -- written to the register area, or no bytes at all
   aside : {addr n : ℕ} {d : Data4} (regs : List ℕ)
       → (0 < n → placeOf (w .target .base) (w .target .size) addr n ≡ Window → ⊥)
-      → RequestCase head w (Request (Tmput addr n d)) Rmput (world (w .target) (w .mem) regs)
+      → RequestCase head w (Request (Tmput addr n d)) Nothing Rmput (world (w .target) (w .mem) regs)
   -- the five requests with a pid: made current, told, noted; already Stopped, or marked; started, or its mark cleared
   current : {pid : ℕ} → Known w pid
-      → RequestCase head w (Request (Tproc pid)) (Rproc (processNamed w pid .address))
+      → RequestCase head w (Request (Tproc pid)) Nothing (Rproc (processNamed w pid .address))
       (withTarget w (withCurrent (w .target) 1 pid))
-  told : {pid : ℕ} (state : ℕ) → RequestCase head w (Request (Tstatus pid)) (Rstatus state) w
-  noted : {pid : ℕ} → RequestCase head w (Request (Trnote pid)) Rrnote w
-  halted : {pid : ℕ} → RequestCase head w (Request (Tstop pid)) Rstop w
+  told : {pid : ℕ} (state : ℕ) → RequestCase head w (Request (Tstatus pid)) Nothing (Rstatus state) w
+  noted : {pid : ℕ} → RequestCase head w (Request (Trnote pid)) Nothing Rrnote w
+  halted : {pid : ℕ} → RequestCase head w (Request (Tstop pid)) Nothing Rstop w
   marked : {pid : ℕ} → Known w pid → isStopped (processNamed w pid) ≡ false
-      → RequestCase head w (Request (Tstop pid)) Rstop
+      → RequestCase head w (Request (Tstop pid)) Nothing Rstop
       (withTarget w (setState (w .target) (indexOf (w .target) pid) (processNamed w pid .state) 1))
   started : {pid : ℕ} → Known w pid → isStopped (processNamed w pid) ≡ true
-      → RequestCase head w (Request (Tstart pid)) Rstart
-      (removedAt (withTarget w (setState (w .target) (indexOf (w .target) pid) ready 0))
-      (pcOf (blockAt (w .regs) (indexOf (w .target) pid))))
+      → RequestCase head w (Request (Tstart pid))
+      (passAt (w .target .table .entries) (pcOf (blockAt (w .regs) (indexOf (w .target) pid)))) Rstart
+      (withTarget w (setState (w .target) (indexOf (w .target) pid) ready 0))
   cleared : {pid : ℕ} → Known w pid → isStopped (processNamed w pid) ≡ false
-      → RequestCase head w (Request (Tstart pid)) Rstart
+      → RequestCase head w (Request (Tstart pid)) Nothing Rstart
       (withTarget w (setState (w .target) (indexOf (w .target) pid) (processNamed w pid .state) 0))
   -- Tcondbreak: n, b, d and an element
   begins : {val op : ℕ} → eqb op (code "n") ≡ true
       → ltb 255 val ≡ false → ltb (entryOf (w .target .table .entries) val) (length (w .target .table .entries)) ≡ false
       → leb (length (w .target .table .entries)) (firstFree (w .target .table .entries)) ≡ false
-      → RequestCase head w (Request (Tcondbreak val op)) Rcondbreak (withTarget w (withDraft (w .target) (begun val)))
+      → RequestCase head w (Request (Tcondbreak val op)) Nothing Rcondbreak
+      (withTarget w (withDraft (w .target) (begun val)))
   plants : {val op : ℕ} → eqb op (code "n") ≡ false → eqb op (code "b") ≡ true → inHand w ≡ true → siteFree w val ≡ true
       → wellFormed (w .target .table .draft .elements) (w .target .table .draft .count) ≡ true
-      → RequestCase head w (Request (Tcondbreak val op)) Rcondbreak (planted head w val)
+      → RequestCase head w (Request (Tcondbreak val op)) Nothing Rcondbreak (planted head w val)
   removes : {val op : ℕ} → eqb op (code "n") ≡ false → eqb op (code "b") ≡ false → eqb op (code "d") ≡ true
       → val ≤ 255 → entryOf (w .target .table .entries) val < length (w .target .table .entries)
-      → RequestCase head w (Request (Tcondbreak val op)) Rcondbreak
+      → RequestCase head w (Request (Tcondbreak val op)) Nothing Rcondbreak
       (removed w (entryOf (w .target .table .entries) val))
   adds : {val op : ℕ} → eqb op (code "n") ≡ false → eqb op (code "b") ≡ false → eqb op (code "d") ≡ false
       → inHand w ≡ true
       → roomFor (w .target .table .draft) (record { letter = op; value = val }) ≡ Fits
-      → RequestCase head w (Request (Tcondbreak val op)) Rcondbreak
+      → RequestCase head w (Request (Tcondbreak val op)) Nothing Rcondbreak
       (withTarget w (withDraft (w .target)
       (withElement (w .target .table .draft) (record { letter = op; value = val }))))
 
 -- served, with a reply that is no Rerr and what Q says of it; or refused with Rerr and all unchanged, but that the
 -- condition in hand is dropped where d
-pub data RequestOutcome (w : World) (d : Bool) (Q : Message → World → Type 0) : Outcome → Type 0 where
-  serving : (m : Message) (v : World) → isMessage m ≡ true → eqb (typeOf m) 1 ≡ false → Q m v
-      → RequestOutcome w d Q (replied m v)
+pub data RequestOutcome (w : World) (d : Bool) (Q : Answer → Message → World → Type 0) : Outcome → Type 0 where
+  serving : (a : Answer) (m : Message) (v : World) → isMessage m ≡ true → eqb (typeOf m) 1 ≡ false → Q a m v
+      → RequestOutcome w d Q (repliedWith a m v)
   failing : (r : Reason) → RequestOutcome w d Q (error r (cond d (dropped w) w))
 
 -- ---- an accepted event: its answer and the world that it leaves
@@ -145,8 +146,7 @@ pub data EventCase (head : Head) (w : World) : Step → Answer → World → Typ
       (stopWith w (indexOf (w .target) pid) block)
   released : {regs block : List ℕ} {pid : ℕ} → hitAt w block < length (w .target .table .entries)
       → holds head w pid (hit w block) ≡ false
-      → EventCase head w (trapEvent regs pid block)
-      (Pass (getD (hit w block .plain) 0 0) (getD (hit w block .plain) 1 0)) w
+      → EventCase head w (trapEvent regs pid block) (passOf (hit w block)) w
   -- a schedule where a stop is wanted, and where none is
   yielded : {regs block : List ℕ} {pid : ℕ} → Known w pid
       → EventCase head w (scheduleEvent regs pid block) Yes (stopWith w (indexOf (w .target) pid) block)
@@ -191,7 +191,7 @@ set-up base size pids addresses count mem regs =
 
 module _ (head : Head) (w : World) where
   -- the current process's block
-  on-block : {Q : Message → World → Type 0} (f : ℕ → Outcome) → ((i : ℕ) → RequestOutcome w false Q (f i))
+  on-block : {Q : Answer → Message → World → Type 0} (f : ℕ → Outcome) → ((i : ℕ) → RequestOutcome w false Q (f i))
       → RequestOutcome w false Q (onBlock w f)
   unfolding onBlock
   on-block {Q} f h =
@@ -201,7 +201,7 @@ module _ (head : Head) (w : World) where
       (λ g. h (indexOf t (t .current))) (λ g. failing Notstop))
 
   -- a request names its process
-  on-process : {Q : Message → World → Type 0} (pid : ℕ) (f : ℕ → Process → Outcome)
+  on-process : {Q : Answer → Message → World → Type 0} (pid : ℕ) (f : ℕ → Process → Outcome)
       → (Known w pid → RequestOutcome w false Q (f (indexOf (w .target) pid) (processNamed w pid)))
       → RequestOutcome w false Q (onProcess w pid f)
   unfolding onProcess
@@ -223,8 +223,8 @@ module _ (head : Head) (w : World) where
         → RequestOutcome w false (RequestCase head w (Request (Tmget addr n))) (gotFrom p w addr n)
     unfolding gotFrom isMessage typeOf
     got-from h Registers e =
-        on-block _ (λ i. serving (Rmget _) w refl refl (got _ (elsewhere e)))
-    got-from h Window e = serving (Rmget _) w refl refl (got _ (λ g q. refl))
+        on-block _ (λ i. serving Nothing (Rmget _) w refl refl (got _ (elsewhere e)))
+    got-from h Window e = serving Nothing (Rmget _) w refl refl (got _ (λ g q. refl))
     got-from h Nowhere e = failing Inval
 
     put-to : (d : Data4) → 0 < n → (p : Place) → place ≡ p
@@ -233,8 +233,8 @@ module _ (head : Head) (w : World) where
     put-to d h Registers e =
         choose (RequestOutcome w false (RequestCase head w (Request (Tmput addr n d)))) (leb addr 3)
         (λ g. failing Inval)
-        (λ g. on-block _ (λ i. serving Rmput _ refl refl (aside _ (elsewhere e))))
-    put-to d h Window e = serving Rmput _ refl refl (put h e)
+        (λ g. on-block _ (λ i. serving Nothing Rmput _ refl refl (aside _ (elsewhere e))))
+    put-to d h Window e = serving Nothing Rmput _ refl refl (put h e)
     put-to d h Nowhere e = failing Inval
 
     some : eqb n 0 ≡ false → 0 < n
@@ -244,14 +244,14 @@ module _ (head : Head) (w : World) where
     unfolding mget isMessage typeOf
     mget-of =
         choose (RequestOutcome w false (RequestCase head w (Request (Tmget addr n)))) (eqb n 0)
-        (λ e. serving (Rmget _) w refl refl (got _ (λ h q. absurd (omega (arith, eqb-true n 0 e)))))
+        (λ e. serving Nothing (Rmget _) w refl refl (got _ (λ h q. absurd (omega (arith, eqb-true n 0 e)))))
         (λ e. got-from (some e) place refl)
 
     mput-of : (d : Data4) → RequestOutcome w false (RequestCase head w (Request (Tmput addr n d))) (mput w addr n d)
     unfolding mput isMessage typeOf
     mput-of d =
         choose (RequestOutcome w false (RequestCase head w (Request (Tmput addr n d)))) (eqb n 0)
-        (λ e. serving Rmput w refl refl (aside (w .regs) (λ h q. omega (arith, eqb-true n 0 e))))
+        (λ e. serving Nothing Rmput w refl refl (aside (w .regs) (λ h q. omega (arith, eqb-true n 0 e))))
         (λ e. put-to d (some e) place refl)
 
   -- ---- the five requests with a pid
@@ -259,16 +259,16 @@ module _ (head : Head) (w : World) where
   stop-of : (pid : ℕ) → RequestOutcome w false (RequestCase head w (Request (Tstop pid))) (stop w pid)
   unfolding stop isMessage typeOf
   stop-of pid =
-      on-process pid _ (λ h. serving Rstop _ refl refl
-      (choose (RequestCase head w (Request (Tstop pid)) Rstop) (isStopped (processNamed w pid)) (λ e. halted)
-      (λ e. marked h e)))
+      on-process pid _ (λ h.
+      choose (RequestOutcome w false (RequestCase head w (Request (Tstop pid)))) (isStopped (processNamed w pid))
+      (λ e. serving Nothing Rstop _ refl refl halted) (λ e. serving Nothing Rstop _ refl refl (marked h e)))
 
   start-of : (pid : ℕ) → RequestOutcome w false (RequestCase head w (Request (Tstart pid))) (start w pid)
   unfolding start isMessage typeOf
   start-of pid =
-      on-process pid _ (λ h. serving Rstart _ refl refl
-      (choose (RequestCase head w (Request (Tstart pid)) Rstart) (isStopped (processNamed w pid)) (λ e. started h e)
-      (λ e. cleared h e)))
+      on-process pid _ (λ h.
+      choose (RequestOutcome w false (RequestCase head w (Request (Tstart pid)))) (isStopped (processNamed w pid))
+      (λ e. serving _ Rstart _ refl refl (started h e)) (λ e. serving Nothing Rstart _ refl refl (cleared h e)))
 
   -- ---- Tcondbreak, letter by letter: a refused n, b or element drops the condition in hand, a refused d does not
 
@@ -286,7 +286,7 @@ module _ (head : Head) (w : World) where
         choose (By true) (ltb 255 val || ltb (entryOf es val) (length es)) (λ e. failing Inval)
         (λ e. choose (By true) (leb (length es) (firstFree es)) (λ f. failing Count)
         (λ f. let o = neither (ltb 255 val) (ltb (entryOf es val) (length es)) e in
-        serving Rcondbreak _ refl refl (begins n (o .0) (o .1) f)))
+        serving Nothing Rcondbreak _ refl refl (begins n (o .0) (o .1) f)))
 
     module _ (n : eqb op (code "n") ≡ false) where
       b-of : eqb op (code "b") ≡ true → By true (setBreakpoint head w val)
@@ -294,7 +294,7 @@ module _ (head : Head) (w : World) where
       b-of b =
           let d = w .target .table .draft in
           choose (By true) (inHand w && siteFree w val && wellFormed (d .elements) (d .count))
-          (λ e. serving Rcondbreak _ refl refl (plants n b (search parts) (search parts) (search parts)))
+          (λ e. serving Nothing Rcondbreak _ refl refl (plants n b (search parts) (search parts) (search parts)))
           (λ e. failing Inval)
 
       module _ (b : eqb op (code "b") ≡ false) where
@@ -303,7 +303,7 @@ module _ (head : Head) (w : World) where
         d-of d =
             let es = w .target .table .entries in
             choose (By false) (leb val 255 && ltb (entryOf es val) (length es))
-            (λ e. serving Rcondbreak _ refl refl (removes n b d (search parts) (search parts)))
+            (λ e. serving Nothing Rcondbreak _ refl refl (removes n b d (search parts) (search parts)))
             (λ e. failing Inval)
 
         joined-of : eqb op (code "d") ≡ false → inHand w ≡ true → (r : Room)
@@ -311,7 +311,7 @@ module _ (head : Head) (w : World) where
             → By true (joined w (addedBy r (w .target .table .draft) element)
             (addedBy r (w .target .table .draft) element .room))
         unfolding joined addedBy failed isMessage typeOf
-        joined-of d h Fits r = serving Rcondbreak _ refl refl (adds n b d h r)
+        joined-of d h Fits r = serving Nothing Rcondbreak _ refl refl (adds n b d h r)
         joined-of d h Full r = failing Count
         joined-of d h Short r = failing Inval
 
@@ -345,9 +345,9 @@ module _ (head : Head) (w : World) where
   unfolding serve proc status rnote isMessage drops bytesOf typeOf fieldsOf padded highFirst lowFirst allZero
   serve-of (Tmget addr n) = mget-of addr n
   serve-of (Tmput addr n d) = mput-of addr n d
-  serve-of (Tproc pid) = on-process pid _ (λ h. serving (Rproc _) _ refl refl (current h))
-  serve-of (Tstatus pid) = on-process pid _ (λ h. serving (Rstatus _) w refl refl (told _))
-  serve-of (Trnote pid) = on-process pid _ (λ h. serving Rrnote w refl refl noted)
+  serve-of (Tproc pid) = on-process pid _ (λ h. serving Nothing (Rproc _) _ refl refl (current h))
+  serve-of (Tstatus pid) = on-process pid _ (λ h. serving Nothing (Rstatus _) w refl refl (told _))
+  serve-of (Trnote pid) = on-process pid _ (λ h. serving Nothing Rrnote w refl refl noted)
   serve-of (Tstop pid) = stop-of pid
   serve-of (Tstart pid) = start-of pid
   serve-of (Tcondbreak val op) = condbreak-of val op

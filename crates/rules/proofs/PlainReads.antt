@@ -1,4 +1,5 @@
--- Reads: a Tmget of the window, the bytes of Pass, what * reads and the memory that a restart leaves are the book's.
+-- Reads: a Tmget of the window, the bytes of Pass and of a Tstart, what * reads and the memory that a restart leaves
+-- are the book's.
 use mathlib.Core.Path.{_≡_, refl, sym, ap, _∙_, fun-ext}
 use mathlib.Core.Bool.{Bool, true, false, cond, _&&_}
 use mathlib.Core.List.{List, [], _∷_, List·Memᴰ, List·Memᴰ·head, List·Memᴰ·tail, List·Memᴰ·not-nil}
@@ -7,15 +8,15 @@ use mathlib.Core.Logic.{⊎-elim}
 use Prim.Native.Nat.{ℕ, _+_, _-_, _%_, _≤_, _<_}
 use native.Mathlib.Nat.{add-zero}
 use native.Mathlib.Omega.{arith}
-use borrow.Author.Tests.{leb-true, leb-false, eqb-true, eqb-false, le-leb, lt-leb}
-use lib.Dec.{leb, eqb}
+use borrow.Author.Tests.{leb-true, leb-false, ltb-true, eqb-true, eqb-false, le-leb, lt-leb}
+use lib.Dec.{leb, ltb, eqb}
 use lib.ListN.{length, getD, take}
 use Rattle.common.specs.Tab.{tab}
 use Rattle.common.proofs.Same.{true-or-false, and-both}
 use Rattle.condition.specs.Evaluate.{evalFrom, evaluateOf, fetchOf}
 use Rattle.condition.specs.declared.Fetched.{Fetched}
 use Rattle.condition.specs.declared.Fetched.the-variants.{Word, Outside}
-use Rattle.target_fit.specs.Fit.{entryAt}
+use Rattle.target_fit.specs.Fit.{processAt, entryAt}
 use Rattle.memory.specs.Head.{Head}
 use Rattle.memory.specs.Overlay.{siteOver, slotOf, plainAt, plainOf}
 use Rattle.memory.specs.Place.{placeOf}
@@ -36,22 +37,24 @@ use Rattle.wire.specs.declared.Message.{Message}
 use Rattle.wire.specs.declared.Message.the-variants.{Tmget, Tmput, Tproc, Tstatus, Trnote, Tstop, Tstart, Tcondbreak}
 use Rattle.wire.specs.declared.Message.the-variants.{Rerr, Rmget, Rmput, Rproc, Rstatus, Rrnote, Rstop, Rstart}
 use Rattle.wire.specs.declared.Message.the-variants.{Rcondbreak}
-use Rattle.rules.specs.Outcome.{World, world, Outcome, answered, refused, replied, error}
-use Rattle.rules.specs.Record.{pcOf}
-use Rattle.rules.specs.Breakpoint.{sites, plains, breakpointAt}
+use Rattle.rules.specs.Outcome.{World, world, Outcome, answered, refused, repliedWith, error}
+use Rattle.rules.specs.Record.{indexOf, isStopped, blockAt, pcOf}
+use Rattle.rules.specs.Breakpoint.{sites, plains, breakpointAt, passOf, passAt}
 use Rattle.rules.specs.Request.{data9Of}
 use Rattle.rules.specs.Event.{holds, restart}
 use Rattle.rules.specs.Step.{Step, request, trapEvent, scheduleEvent, stateEvent, restartStep, stepOf}
 use Rattle.rules.specs.Book.{Breakpoint, Book, inWindow, readBy, fetchBy, answerOf}
 use Rattle.rules.specs.Step.{Setup, isAccepted}
-use Rattle.rules.specs.Book.{answerAmong, trapBy}
+use Rattle.rules.specs.Book.{answerAmong, trapBy, passBy, startBy}
 use Rattle.rules.proofs.Facts.{Used}
 use Rattle.rules.proofs.FitFacts.{facts-of, slot-used, slot-multiple, slot-only, slot-byte, eight-sites}
 use Rattle.rules.proofs.Found.{used-at, at-site}
 use Rattle.rules.proofs.Agree.{dressed, Agree}
 use Rattle.rules.proofs.Laid.{in-window}
+use Rattle.rules.proofs.Traps.{its-block, same-site, same-stopped}
 use Rattle.memory.proofs.Parts.{within-window}
 use Rattle.rules.specs.declared.Answer.{Answer}
+use Rattle.rules.specs.declared.Answer.the-variants.{Nothing}
 use Rattle.wire.specs.declared.Data9.{Data9}
 use Rattle.rules.specs.Step.{regsOf, bufferOf}
 use Rattle.rules.proofs.Outcomes.{RequestCase, RequestOutcome, serving, failing, EventCase, hit, by-step, got}
@@ -60,35 +63,35 @@ use Rattle.rules.proofs.Outcomes.{told, noted, halted, marked, started,
 use Rattle.rules.proofs.Outcomes.{caught, released}
 use Rattle.rules.proofs.Outcomes.{yielded, ran, became}
 
--- what the book says of a request: a Tmget of the window answers plain memory's bytes
-unfoldable pub ReadsMessage : Setup → Book → Message → List ℕ → Type 0
-ReadsMessage s b (Tmget addr n) reply = inWindow s addr n ≡ true → reply ≡ readBy s b addr n
-ReadsMessage s b (Tmput addr n d) reply = Unit
-ReadsMessage s b (Tproc pid) reply = Unit
-ReadsMessage s b (Tstatus pid) reply = Unit
-ReadsMessage s b (Trnote pid) reply = Unit
-ReadsMessage s b (Tstop pid) reply = Unit
-ReadsMessage s b (Tstart pid) reply = Unit
-ReadsMessage s b (Tcondbreak val op) reply = Unit
-ReadsMessage s b (Rerr r) reply = Unit
-ReadsMessage s b (Rmget d) reply = Unit
-ReadsMessage s b Rmput reply = Unit
-ReadsMessage s b (Rproc addr) reply = Unit
-ReadsMessage s b (Rstatus x) reply = Unit
-ReadsMessage s b Rrnote reply = Unit
-ReadsMessage s b Rstop reply = Unit
-ReadsMessage s b Rstart reply = Unit
-ReadsMessage s b Rcondbreak reply = Unit
+-- what the book says of a request: a Tmget of the window answers plain memory's bytes, and a Tstart those at its pc
+unfoldable pub ReadsMessage : Setup → Book → List ℕ → Message → Answer → List ℕ → Type 0
+ReadsMessage s b regs (Tmget addr n) x reply = inWindow s addr n ≡ true → reply ≡ readBy s b addr n
+ReadsMessage s b regs (Tmput addr n d) x reply = Unit
+ReadsMessage s b regs (Tproc pid) x reply = Unit
+ReadsMessage s b regs (Tstatus pid) x reply = Unit
+ReadsMessage s b regs (Trnote pid) x reply = Unit
+ReadsMessage s b regs (Tstop pid) x reply = Unit
+ReadsMessage s b regs (Tstart pid) x reply = x ≡ startBy s b regs pid
+ReadsMessage s b regs (Tcondbreak val op) x reply = Unit
+ReadsMessage s b regs (Rerr r) x reply = Unit
+ReadsMessage s b regs (Rmget d) x reply = Unit
+ReadsMessage s b regs Rmput x reply = Unit
+ReadsMessage s b regs (Rproc addr) x reply = Unit
+ReadsMessage s b regs (Rstatus v) x reply = Unit
+ReadsMessage s b regs Rrnote x reply = Unit
+ReadsMessage s b regs Rstop x reply = Unit
+ReadsMessage s b regs Rstart x reply = Unit
+ReadsMessage s b regs Rcondbreak x reply = Unit
 
-unfoldable pub ReadsRequest : Setup → Book → Parsed → List ℕ → Type 0
-ReadsRequest s b (Request m) reply = ReadsMessage s b m reply
-ReadsRequest s b (Refused r) reply = Unit
-ReadsRequest s b NotTen reply = Unit
+unfoldable pub ReadsRequest : Setup → Book → List ℕ → Parsed → Answer → List ℕ → Type 0
+ReadsRequest s b regs (Request m) x reply = ReadsMessage s b regs m x reply
+ReadsRequest s b regs (Refused r) x reply = Unit
+ReadsRequest s b regs NotTen x reply = Unit
 
 -- what the book says of one step
 unfoldable pub RightStep : Head → Setup → Book → Step → Outcome → Type 0
 RightStep h s b (request regs bytes buffer) o = isAccepted (o .number) (o .reply) ≡ true
-    → ReadsRequest s b (parseOf bytes) (o .reply)
+    → ReadsRequest s b regs (parseOf bytes) (o .answer) (o .reply)
 RightStep h s b (trapEvent regs pid block) o = o .number ≡ 0 → o .answer ≡ trapBy h s b pid block
 RightStep h s b (scheduleEvent regs pid block) o = Unit
 RightStep h s b (stateEvent regs pid value) o = Unit
@@ -180,6 +183,37 @@ module _ {head : Head} (s : Setup) (b : Book) (t : Target) (mem : List ℕ) (a :
       ∙ ap (λ (l : List ℕ). getD l i 0) (a .follows .plain)
       ∙ ap (λ (n : ℕ). getD (b .plain) (entryAt (t .table .entries) k .site - n + r) 0) (a .follows .base)
 
+  -- the bytes of a breakpoint are plain memory's at its site
+  passes : (k : ℕ) → Used t k
+      → passOf (entryAt (t .table .entries) k) ≡ passBy s b (entryAt (t .table .entries) k .site)
+  unfolding passOf passBy
+  passes k u =
+      let site = entryAt (t .table .entries) k .site in
+      let first : getD (entryAt (t .table .entries) k .plain) 0 0 ≡ getD (b .plain) (site - s .base) 0 =
+      reads-pass k 0 u (omega arith) ∙ rw add-zero in
+      rw (first, reads-pass k 1 u (omega arith))
+
+  -- ---- a Tstart of a Stopped process
+
+  reads-started : (regs : List ℕ) (pid : ℕ) → indexOf t pid < t .count
+      → isStopped (processAt (t .processes) (indexOf t pid)) ≡ true
+      → passAt (t .table .entries) (pcOf (blockAt regs (indexOf t pid))) ≡ startBy s b regs pid
+  unfolding passAt startBy
+  reads-started regs pid h e =
+      let es = t .table .entries in
+      let pc : ℕ = pcOf (blockAt regs (indexOf t pid)) in
+      rw (its-block s b t mem a regs pid, sym (same-stopped s b t mem a pid h) ∙ e, ← (same-site s b t mem a pc))
+      (on-test (ltb (breakpointAt es pc) (length es))
+      (λ f. let k = ltb-true _ _ f in
+      rw f (passes _ (used-at es pc (a .good .shaped .entries) k) ∙ ap (passBy s b) (at-site es pc k)))
+      (λ f. rw f))
+
+  -- and of any other
+  reads-cleared : (regs : List ℕ) (pid : ℕ) → indexOf t pid < t .count
+      → isStopped (processAt (t .processes) (indexOf t pid)) ≡ false → Nothing ≡ startBy s b regs pid
+  unfolding startBy
+  reads-cleared regs pid h e = rw (sym (same-stopped s b t mem a pid h) ∙ e)
+
   -- ---- a trap event
 
   -- the answer is that of the one breakpoint at the address
@@ -221,8 +255,8 @@ module _ {head : Head} (s : Setup) (b : Book) (t : Target) (mem : List ℕ) (a :
 
   -- ---- every step
 
-  reads-left : {regs : List ℕ} {p : Parsed} {q : Message} {v : World} → RequestCase head (world t mem regs) p q v
-      → ReadsRequest s b p (bytesOf q)
+  reads-left : {regs : List ℕ} {p : Parsed} {x : Answer} {q : Message} {v : World}
+      → RequestCase head (world t mem regs) p x q v → ReadsRequest s b regs p x (bytesOf q)
   unfolding ReadsRequest ReadsMessage
   reads-left (got d h) = reads-got _ _ d h
   reads-left (put h p) = tt
@@ -232,8 +266,8 @@ module _ {head : Head} (s : Setup) (b : Book) (t : Target) (mem : List ℕ) (a :
   reads-left noted = tt
   reads-left halted = tt
   reads-left (marked h e) = tt
-  reads-left (started h e) = tt
-  reads-left (cleared h e) = tt
+  reads-left (started h e) = reads-started _ _ h e
+  reads-left (cleared h e) = reads-cleared _ _ h e
   reads-left (begins n x y z) = tt
   reads-left (plants n x h y z) = tt
   reads-left (removes n x d y z) = tt
@@ -241,9 +275,9 @@ module _ {head : Head} (s : Setup) (b : Book) (t : Target) (mem : List ℕ) (a :
 
   reads-served : {regs : List ℕ} {d : Bool} {p : Parsed} {o : Outcome}
       → RequestOutcome (world t mem regs) d (RequestCase head (world t mem regs) p) o
-      → isAccepted (o .number) (o .reply) ≡ true → ReadsRequest s b p (o .reply)
-  unfolding replied error isAccepted bytesOf typeOf
-  reads-served (serving m v h e l) z = reads-left l
+      → isAccepted (o .number) (o .reply) ≡ true → ReadsRequest s b regs p (o .answer) (o .reply)
+  unfolding repliedWith error isAccepted bytesOf typeOf
+  reads-served (serving x m v h e l) z = reads-left l
   reads-served (failing r) z = true-or-false z
 
   -- a trap event that is accepted answers by the book
@@ -254,11 +288,8 @@ module _ {head : Head} (s : Setup) (b : Book) (t : Target) (mem : List ℕ) (a :
       sym (answers-found pid (pcOf block) k ∙ rw (reads-holds regs pid (hit (world t mem regs) block) ∙ e))
   reads-heard {regs = regs} (released {block = block} {pid = pid} k e) = λ z.
       let u = used-at (t .table .entries) (pcOf block) (a .good .shaped .entries) k in
-      let x : Entry = hit (world t mem regs) block in
-      let first : getD (x .plain) 0 0 ≡ getD (b .plain) (x .site - s .base) 0 =
-      reads-pass _ 0 u (omega arith) ∙ rw add-zero in
       sym (answers-found pid (pcOf block) k
-      ∙ rw (reads-holds regs pid x ∙ e, ← first, ← (reads-pass _ 1 u (omega arith))))
+      ∙ rw (reads-holds regs pid (hit (world t mem regs) block) ∙ e) (sym (passes _ u)))
   reads-heard (yielded h) = tt
   reads-heard ran = tt
   reads-heard (became h e n) = tt
@@ -274,7 +305,7 @@ module _ {head : Head} (s : Setup) (b : Book) (t : Target) (mem : List ℕ) (a :
   reads-none (restartStep regs reply) n h = λ z. absurd (eqb-false n 0 h z)
 
   pub right-step : (e : Step) → RightStep head s b e (stepOf head t mem e)
-  unfolding RightStep restart replied
+  unfolding RightStep restart repliedWith
   right-step =
       by-step t mem (RightStep head s b) (λ e n h three. reads-none e n h) (λ regs bytes reply o x. reads-served x)
       (λ e x v h. reads-heard h) (λ regs reply z. a .follows .plain)

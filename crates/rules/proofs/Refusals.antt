@@ -7,12 +7,11 @@ use borrow.Author.Tests.{eqb-false}
 use lib.Dec.{eqb}
 use Rattle.common.proofs.Same.{true-or-false}
 use Rattle.memory.specs.Head.{Head}
-use Rattle.target.specs.Fresh.{closedDraft, emptyTarget}
+use Rattle.target.specs.Fresh.{closedDraft}
 use Rattle.target.specs.declared.Draft.{Draft}
 use Rattle.target.specs.declared.Target.{Target}
 use Rattle.wire.specs.Message.{bytesOf}
-use Rattle.rules.specs.declared.Answer.the-variants.{Nothing}
-use Rattle.rules.specs.Outcome.{World, world, Outcome, refused, answered, replied, error}
+use Rattle.rules.specs.Outcome.{World, world, Outcome, refused, answered, repliedWith, error}
 use Rattle.rules.specs.Record.{withTable, withDraft}
 use Rattle.rules.specs.Condition.{dropped}
 use Rattle.rules.specs.Request.{drops}
@@ -65,8 +64,8 @@ by-checks P test d zero left (passed p) = record {
 -- a request that got Rerr
 left-error : {w : World} {d : Bool} {o : Outcome} → Handled w d o
     → not (isAccepted (o .number) (o .reply)) ≡ true → o .after ≡ cond d (dropped w) w
-unfolding isAccepted replied error bytesOf
-left-error (accepted m v h g) e = true-or-false (rw g at e)
+unfolding isAccepted repliedWith error bytesOf
+left-error (accepted a m v h g) e = true-or-false (rw g at e)
 left-error (refusing r) e = refl
 
 -- of any other step number 0 is no refusal

@@ -5,7 +5,7 @@ use mathlib.Core.Path.{_≡_, refl}
 use mathlib.Core.Bool.{Bool, true, false, cond, _&&_}
 use mathlib.Core.List.{List, []}
 use Prim.Native.Nat.{ℕ}
-use borrow.Author.Tests.{eqb-false, eq-eqb}
+use borrow.Author.Tests.{eqb-false}
 use lib.Dec.{eqb}
 use lib.ListN.{length}
 use Rattle.common.proofs.Cases.{on-test}
@@ -13,15 +13,16 @@ use Rattle.common.proofs.Same.{and-left, and-right}
 use Rattle.target_fit.specs.Fit.{fitOf}
 use Rattle.memory.specs.Head.{Head}
 use Rattle.target.specs.declared.Target.{Target}
-use Rattle.wire.specs.Message.{isMessage, typeOf, bytesOf}
+use Rattle.wire.specs.Message.{isMessage, typeOf}
 use Rattle.wire.specs.declared.Message.{Message}
 use Rattle.wire.specs.declared.Message.the-variants.{Rerr}
 use Rattle.wire_text.specs.declared.Reason.{Reason}
 use Rattle.wire_text.specs.declared.Reason.the-variants.{Reset}
 use Rattle.wire_laws.proofs.Messages.{ten-bytes}
+use Rattle.rules.specs.declared.Answer.{Answer}
 use Rattle.rules.specs.declared.Answer.the-variants.{Nothing}
 use Rattle.rules.specs.Claims.{Reply, NoReply, RightReply, requestNumber}
-use Rattle.rules.specs.Outcome.{World, Outcome, replied, error, refused, answered}
+use Rattle.rules.specs.Outcome.{World, Outcome, repliedWith, error, refused, answered}
 use Rattle.rules.specs.Condition.{dropped}
 use Rattle.rules.specs.Request.{drops}
 use Rattle.rules.specs.Event.{restart}
@@ -37,12 +38,13 @@ use Rattle.rules.proofs.Outcomes.{outcome-state}
 -- served, with a reply that is no Rerr; or refused with Rerr and all unchanged, but that the condition in hand is
 -- dropped where d
 pub data Handled (w : World) (d : Bool) : Outcome → Type 0 where
-  accepted : (m : Message) (v : World) → isMessage m ≡ true → eqb (typeOf m) 1 ≡ false → Handled w d (replied m v)
+  accepted : (a : Answer) (m : Message) (v : World) → isMessage m ≡ true → eqb (typeOf m) 1 ≡ false
+      → Handled w d (repliedWith a m v)
   refusing : (r : Reason) → Handled w d (error r (cond d (dropped w) w))
 
-handled-of : {w : World} {d : Bool} {Q : Message → World → Type 0} {o : Outcome} → RequestOutcome w d Q o
+handled-of : {w : World} {d : Bool} {Q : Answer → Message → World → Type 0} {o : Outcome} → RequestOutcome w d Q o
     → Handled w d o
-handled-of (serving m v h g q) = accepted m v h g
+handled-of (serving a m v h g q) = accepted a m v h g
 handled-of (failing r) = refusing r
 
 -- ---- what every step comes to
@@ -57,9 +59,9 @@ by-walk : {head : Head} {w : World} {reply : List ℕ} {P R : Outcome → Type 0
 by-walk f (numbered n h g) = held n h
 by-walk f (past-checks p) = passed (f p)
 
-reply-of : (m : Message) (w : World) → isMessage m ≡ true → Reply (replied m w)
-unfolding replied
-reply-of m w h = record { number = refl; message = m; lawful = h; bytes = refl; ten = ten-bytes m }
+reply-of : (a : Answer) (m : Message) (w : World) → isMessage m ≡ true → Reply (repliedWith a m w)
+unfolding repliedWith
+reply-of a m w h = record { number = refl; message = m; lawful = h; bytes = refl; ten = ten-bytes m }
 
 event-reply : {head : Head} {w : World} {e : Step} {o : Outcome} → EventOutcome head w e o → NoReply o
 unfolding answered
@@ -71,7 +73,7 @@ module _ (head : Head) (w : World) where
 
   pub restart-checked : (reply : List ℕ) → Checked Reply w reply (restartOf head w reply)
   unfolding restart isMessage
-  restart-checked reply = by-walk (λ e. rw e (reply-of (Rerr Reset) _ refl)) (outcome-restart head w reply)
+  restart-checked reply = by-walk (λ e. rw e (reply-of Nothing (Rerr Reset) _ refl)) (outcome-restart head w reply)
 
   pub trap-checked : (pid : ℕ) (block : List ℕ) → Checked NoReply w [] (trapOf head w pid block)
   trap-checked pid block = by-walk event-reply (outcome-trap head w [] pid block)
@@ -92,8 +94,8 @@ let-pass P (passed p) e = p
 
 pub served-reply : {w : World} {d : Bool} {o : Outcome} → Handled w d o → Reply o
 unfolding error isMessage
-served-reply (accepted m v h g) = reply-of m v h
-served-reply (refusing r) = reply-of (Rerr r) _ refl
+served-reply (accepted a m v h g) = reply-of a m v h
+served-reply (refusing r) = reply-of Nothing (Rerr r) _ refl
 
 pub replies : (head : Head) (t : Target) (mem : List ℕ) (e : Step) → stepOf head t mem e .number ≡ 0
     → RightReply e (stepOf head t mem e)
@@ -104,26 +106,6 @@ replies head t mem (trapEvent regs pid block) e = let-pass NoReply (trap-checked
 replies head t mem (scheduleEvent regs pid block) e = let-pass NoReply (schedule-checked head _ pid block) e
 replies head t mem (stateEvent regs pid value) e = let-pass NoReply (state-checked head _ pid value) e
 replies head t mem (restartStep regs reply) e = let-pass Reply (restart-checked head _ reply) e
-
--- a request and a restart have no answer, whatever their number
-served-quiet : {w : World} {d : Bool} {Q : Message → World → Type 0} {o : Outcome} → RequestOutcome w d Q o
-    → o .answer ≡ Nothing
-unfolding replied error
-served-quiet (serving m v h g q) = refl
-served-quiet (failing r) = refl
-
-outcome-quiet : {head : Head} {w : World} {reply : List ℕ} {P : Outcome → Type 0} {o : Outcome}
-    → (P o → o .answer ≡ Nothing) → StepOutcome head w reply P o → o .answer ≡ Nothing
-unfolding refused
-outcome-quiet f (numbered n h g) = refl
-outcome-quiet f (past-checks p) = f p
-
-pub request-quiet : (head : Head) (w : World) (bytes reply : List ℕ) → requestOf head w bytes reply .answer ≡ Nothing
-request-quiet head w bytes reply = outcome-quiet served-quiet (outcome-request head w bytes reply)
-
-pub restart-quiet : (head : Head) (w : World) (reply : List ℕ) → restartOf head w reply .answer ≡ Nothing
-unfolding restart replied
-restart-quiet head w reply = outcome-quiet (λ e. rw e) (outcome-restart head w reply)
 
 -- the number of every request: 2 and 3 come first, then there is only 0
 pub numbers : (head : Head) (w : World) (bytes reply : List ℕ)

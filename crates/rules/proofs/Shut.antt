@@ -13,13 +13,13 @@ use Rattle.rules.specs.Outcome.{answerBytes}
 use Rattle.rules.specs.Step.{Step, stateEvent}
 use Rattle.rules.specs.Claim.{Stub, stubOf, Part, Says, Right, Action, step, Claim, Demand3}
 use Rattle.rules.specs.Claim.{numberPart, answerPart, replyPart, fitPart, readsPart, trappedPart, trapPart}
-use Rattle.rules.specs.Claim.{restartPart}
+use Rattle.rules.specs.Claim.{startPart, restartPart}
 use Rattle.rules.specs.Claims.{ShutOut, AllShut, none, _&_}
 use Rattle.rules.specs.Stubs.{rerrAlways, zerosAlways, storesNothing, plantsFirstOnly, plantsNothing}
 use Rattle.rules.specs.Stubs.{readsReal, findsNoSite, neverStops, acceptsStates, answersStates, zeroRestart}
-use Rattle.rules.specs.Stubs.{keepsTraps, alwaysUnfit}
+use Rattle.rules.specs.Stubs.{removesAtStart, answersNothing, keepsTraps, alwaysUnfit}
 use Rattle.rules.specs.Stubs.{zeroed, asking, trapAt, scheduled, restartNow, case1, twoBytes, case4, twice, case5}
-use Rattle.rules.specs.Stubs.{readBack, case10}
+use Rattle.rules.specs.Stubs.{readBack, case10, stoppedArea, continued}
 use Rattle.rules.specs.Stubs.{Stage, firstStage, passed, SaysAfter, RealAfter, StubRow, part, memory, actsOf}
 use Rattle.rules.specs.Stubs.{SaysRow}
 use Rattle.rules.specs.Stubs.{stubRows}
@@ -38,6 +38,7 @@ said c fitPart = c .fit
 said c readsPart = c .reads
 said c trappedPart = c .trapped
 said c trapPart = c .trap
+said c startPart = c .start
 said c restartPart = c .restart
 
 module _ (f : Stub) where
@@ -118,6 +119,21 @@ evaluates-real : SaysAfter trapPart (stubOf (readsReal 2)) case10 trapAt → ⊥
 unfolding claim-computes
 evaluates-real c = apart (ap answerBytes (c zeroed trapBlock 5 refl refl)) refl
 
+abbrev startBytes : List ℕ
+startBytes = highFirst 10 0x0e_00000005_0000000000
+
+starts-real : SaysAfter startPart (stubOf (readsReal 1)) (case4 ++ (trapAt ∷ [])) continued → ⊥
+unfolding claim-computes
+starts-real c = apart (ap answerBytes (c stoppedArea startBytes (replicate 10 0) 5 refl refl refl)) refl
+
+starts-silent : SaysAfter startPart (stubOf answersNothing) (case4 ++ (trapAt ∷ [])) continued → ⊥
+unfolding claim-computes
+starts-silent c = apart (ap answerBytes (c stoppedArea startBytes (replicate 10 0) 5 refl refl refl)) refl
+
+removes-at-start : RealAfter (stubOf removesAtStart) (case4 ++ (trapAt ∷ continued ∷ [])) → ⊥
+unfolding claim-computes
+removes-at-start c = apart c refl
+
 finds-no-site : SaysAfter trappedPart (stubOf findsNoSite) case4 trapAt → ⊥
 unfolding claim-computes
 finds-no-site c = apart (ap one (c zeroed trapBlock 5 refl)) refl
@@ -158,6 +174,9 @@ stubs r =
     by-row _ plants-nothing &
     by-row _ reads-real &
     by-row _ evaluates-real &
+    by-row _ starts-real &
+    by-row _ starts-silent &
+    by-row _ removes-at-start &
     by-row _ finds-no-site &
     by-row _ never-stops &
     by-row _ accepts-states &

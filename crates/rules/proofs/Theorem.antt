@@ -13,11 +13,11 @@ use Rattle.memory.specs.Overlay.{covered}
 use Rattle.request_parse.specs.Request.{parseOf}
 use Rattle.request_parse.specs.declared.Parsed.the-variants.{Request}
 use Rattle.target.specs.declared.Target.{Target}
-use Rattle.wire.specs.declared.Message.the-variants.{Tmget}
+use Rattle.wire.specs.declared.Message.the-variants.{Tmget, Tstart}
 use Rattle.rules.specs.Outcome.{Outcome, answered}
 use Rattle.rules.specs.Breakpoint.{sites}
 use Rattle.rules.specs.Step.{setupTarget, Step, request, trapEvent, restartStep, stepOf}
-use Rattle.rules.specs.Book.{Book, inWindow, readBy, opened, withPlain, fed, underTrap}
+use Rattle.rules.specs.Book.{Book, inWindow, readBy, startBy, opened, withPlain, fed, underTrap}
 use Rattle.rules.specs.Step.{Setup, setupBy, isAccepted}
 use Rattle.rules.specs.Claim.{stubOf, Says, Right, Action, step, change, Claim, Demand3}
 use Rattle.rules.proofs.Facts.{Good}
@@ -94,9 +94,21 @@ right-read : {head : Head} (s : Setup) (b : Book) (t : Target) (mem : List ℕ) 
 unfolding RightStep ReadsRequest ReadsMessage
 right-read {head} s b t mem a regs bytes buffer addr n m i z =
     let o = stepOf head t mem (request regs bytes buffer) in
-    let given : ReadsRequest s b (parseOf bytes) (o .reply) =
+    let given : ReadsRequest s b regs (parseOf bytes) (o .answer) (o .reply) =
     right-step s b t mem a (request regs bytes buffer) z in
     (rw m at given) i
+
+-- a Tstart answers as the book says
+right-start : {head : Head} (s : Setup) (b : Book) (t : Target) (mem : List ℕ) → Agree head s b t mem
+    → (regs bytes buffer : List ℕ) (pid : ℕ) → parseOf bytes ≡ Request (Tstart pid)
+    → let o = stepOf head t mem (request regs bytes buffer) in
+    isAccepted (o .number) (o .reply) ≡ true → o .answer ≡ startBy s b regs pid
+unfolding RightStep ReadsRequest ReadsMessage
+right-start {head} s b t mem a regs bytes buffer pid m z =
+    let o = stepOf head t mem (request regs bytes buffer) in
+    let given : ReadsRequest s b regs (parseOf bytes) (o .answer) (o .reply) =
+    right-step s b t mem a (request regs bytes buffer) z in
+    rw m at given
 
 -- a step of the rules is right
 pub right : {head : Head} (s : Setup) (b : Book) (t : Target) (mem : List ℕ) → Agree head s b t mem → (e : Step)
@@ -109,6 +121,7 @@ right s b t mem a e = record {
   fit = never-three t mem e (a .good);
   reads = λ regs bytes buffer addr n q. rw q (right-read s b t mem a regs bytes buffer addr n);
   trap = λ x y z q. rw q (right-step s b t mem a (trapEvent _ _ _));
+  start = λ regs bytes buffer pid q. rw q (right-start s b t mem a regs bytes buffer pid);
   trapped = λ x y z q. rw q (trap-number s b t mem a _ _ _);
   restart = λ x y q. rw q (right-step s b t mem a (restartStep _ _));
 }

@@ -1,6 +1,6 @@
--- A trap event's number is the book's.
+-- What is listed, Stopped and at a site is the book's, and so a trap event's number is.
 use mathlib.Core.Path.{_≡_, refl, sym, ap, _∙_}
-use mathlib.Core.Bool.{Bool, true, false, cond, _&&_}
+use mathlib.Core.Bool.{true, _&&_}
 use mathlib.Core.List.{List, [], _∷_, map, List·Memᴰ, List·Memᴰ·head, List·Memᴰ·tail, List·Memᴰ·not-nil}
 use mathlib.Core.List.{List·Memᴰ·cases-cons}
 use mathlib.Core.Logic.{⊎-elim}
@@ -14,17 +14,16 @@ use Rattle.common.specs.First.{firstOf}
 use Rattle.common.specs.Keys.{among}
 use Rattle.common.proofs.Cases.{on-test, either, same-test}
 use Rattle.common.proofs.Same.{true-or-false}
-use Rattle.target_fit.specs.Fit.{fitOf, processAt, entryAt}
+use Rattle.target_fit.specs.Fit.{processAt, entryAt}
 use Rattle.memory.specs.Head.{Head}
 use Rattle.target.specs.declared.Target.{Target}
-use Rattle.rules.specs.Outcome.{World, world, Outcome, answered, refused}
-use Rattle.rules.specs.Record.{indexOf, pcOf, isStopped}
+use Rattle.rules.specs.Outcome.{world, Outcome, answered, refused}
+use Rattle.rules.specs.Record.{indexOf, blockAt, pcOf, isStopped}
 use Rattle.rules.specs.Breakpoint.{breakpointAt}
 use Rattle.rules.specs.Event.{onListed, holds, trapped, trap}
-use Rattle.rules.specs.Step.{Step, trapEvent, sized, checked, trapOf, stepOf}
+use Rattle.rules.specs.Step.{trapEvent, sized, checked, trapOf, stepOf}
 use Rattle.rules.specs.Book.{Breakpoint, Book, trapNumber}
 use Rattle.rules.specs.Step.{Setup}
-use Rattle.rules.proofs.Facts.{Used}
 use Rattle.rules.proofs.FitFacts.{facts-of}
 use Rattle.rules.proofs.Found.{used-at, at-site, at-first}
 use Rattle.rules.proofs.Halted.{pid-place, listed-pid}
@@ -72,7 +71,7 @@ module _ {head : Head} (s : Setup) (b : Book) (t : Target) (mem : List ℕ) (a :
       ∙ ap (λ (l : List ℕ). among l pid) (a .follows .pids)
 
   -- a breakpoint is at the address
-  same-site : (pc : ℕ)
+  pub same-site : (pc : ℕ)
       → ltb (breakpointAt (t .table .entries) pc) (length (t .table .entries))
       ≡ among (map (λ x. x .site) (b .breakpoints)) pc
   unfolding dressed
@@ -90,10 +89,16 @@ module _ {head : Head} (s : Setup) (b : Book) (t : Target) (mem : List ℕ) (a :
       lt-ltb (breakpointAt es pc) (length es) (omega arith))
 
   -- its process is Stopped
-  same-stopped : (pid : ℕ) → indexOf t pid < t .count
+  pub same-stopped : (pid : ℕ) → indexOf t pid < t .count
       → isStopped (processAt (t .processes) (indexOf t pid)) ≡ among (b .stopped) pid
   same-stopped pid h =
       a .follows .stopped (indexOf t pid) h ∙ ap (among (b .stopped)) (listed-pid t mem (a .good) pid h)
+
+  -- its block is the one that the book looks at
+  pub its-block : (regs : List ℕ) (pid : ℕ)
+      → blockAt regs (firstOf (eqb pid) (take (s .count) (s .pids))) ≡ blockAt regs (indexOf t pid)
+  its-block regs pid = ap (λ l. blockAt regs (firstOf (eqb pid) l)) (sym (a .follows .pids))
+      ∙ ap (blockAt regs) (pid-place (t .processes) (t .count) pid)
 
   same-sized : (regs : List ℕ) → sized (world t mem regs) ≡ eqb (length regs) (136 * s .count)
   unfolding sized

@@ -4,14 +4,13 @@
 --
 -- h is the head (Head.antt of memory): its trap, two bytes as they stand in memory, and the value of a word's bytes.
 -- 01 has the house's: "in memory the bytes 02 90", and words "low-order first".
-use mathlib.Core.Path.{_≡_}
 use Prim.Native.Nat.{ℕ, _+_, _-_, _*_}
 use Prim.Native.Char.{code}
-use mathlib.Core.Bool.{Bool, true, false, cond, not, _&&_}
+use mathlib.Core.Bool.{Bool, true, false, cond, _&&_}
 use mathlib.Core.List.{List, [], _∷_, _++_, map}
 use mathlib.Core.Option.{Option, none, some}
 use lib.Dec.{leb, ltb, eqb}
-use lib.ListN.{length, getD, take, set}
+use lib.ListN.{length, getD, take}
 use Rattle.common.specs.First.{firstOf}
 use Rattle.common.specs.Keys.{among}
 use Rattle.common.specs.Numbers.{accepted, wrongSize, unlistedPid, stoppedProcess, noSite}
@@ -120,41 +119,38 @@ bookCondbreak b val op =
     (cond (eqb op (code "d")) (withBreakpoints b (removing (λ x. eqb (x .id) val) (b .breakpoints)))
     (withPending b (joins (b .draft) (record { letter = op; value = val })))))
 
--- ---- "An accepted Tstart ends that and, where it was so, removes a breakpoint at the pc in its register block"
+-- ---- "Stop and yes make the process Stopped. An accepted Tstart ends that". 02, Two: "removed means by d or restart
+-- only"
 
-unfoldable pub bookStart : Setup → Book → List ℕ → ℕ → Book
-bookStart s b regs pid =
-    let pc = pcOf (blockAt regs (firstOf (eqb pid) (take (s .count) (s .pids)))) in
-    cond (among (b .stopped) pid)
-    (withBreakpoints (withStopped b (others pid (b .stopped))) (removing (λ x. eqb (x .site) pc) (b .breakpoints)))
-    b
+unfoldable pub bookStart : Book → ℕ → Book
+bookStart b pid = withStopped b (others pid (b .stopped))
 
 -- ---- what feeds the book: a step's arguments, its number and its answer. "All else, and every refused step, changes
 -- nothing"
 
-unfoldable pub bookServed : Setup → Book → List ℕ → Message → Book
-bookServed s b regs (Tmget addr n) = b
-bookServed s b regs (Tmput addr n d) = bookWrite s b addr n d
-bookServed s b regs (Tproc pid) = b
-bookServed s b regs (Tstatus pid) = b
-bookServed s b regs (Trnote pid) = b
-bookServed s b regs (Tstop pid) = b
-bookServed s b regs (Tstart pid) = bookStart s b regs pid
-bookServed s b regs (Tcondbreak val op) = bookCondbreak b val op
-bookServed s b regs (Rerr r) = b
-bookServed s b regs (Rmget d) = b
-bookServed s b regs Rmput = b
-bookServed s b regs (Rproc addr) = b
-bookServed s b regs (Rstatus x) = b
-bookServed s b regs Rrnote = b
-bookServed s b regs Rstop = b
-bookServed s b regs Rstart = b
-bookServed s b regs Rcondbreak = b
+unfoldable pub bookServed : Setup → Book → Message → Book
+bookServed s b (Tmget addr n) = b
+bookServed s b (Tmput addr n d) = bookWrite s b addr n d
+bookServed s b (Tproc pid) = b
+bookServed s b (Tstatus pid) = b
+bookServed s b (Trnote pid) = b
+bookServed s b (Tstop pid) = b
+bookServed s b (Tstart pid) = bookStart b pid
+bookServed s b (Tcondbreak val op) = bookCondbreak b val op
+bookServed s b (Rerr r) = b
+bookServed s b (Rmget d) = b
+bookServed s b Rmput = b
+bookServed s b (Rproc addr) = b
+bookServed s b (Rstatus x) = b
+bookServed s b Rrnote = b
+bookServed s b Rstop = b
+bookServed s b Rstart = b
+bookServed s b Rcondbreak = b
 
-unfoldable pub bookRequest : Setup → Book → List ℕ → Parsed → Book
-bookRequest s b regs (Request m) = bookServed s b regs m
-bookRequest s b regs (Refused r) = b
-bookRequest s b regs NotTen = b
+unfoldable pub bookRequest : Setup → Book → Parsed → Book
+bookRequest s b (Request m) = bookServed s b m
+bookRequest s b (Refused r) = b
+bookRequest s b NotTen = b
 
 -- "Stop and yes make the process Stopped"
 unfoldable pub bookAnswer : Book → ℕ → Answer → Book
@@ -166,7 +162,7 @@ bookAnswer b pid No = b
 
 unfoldable pub fed : Setup → Book → Step → ℕ → Answer → List ℕ → Book
 fed s b (request regs bytes buffer) number answer reply =
-    cond (isAccepted number reply) (bookRequest s b regs (parseOf bytes)) b
+    cond (isAccepted number reply) (bookRequest s b (parseOf bytes)) b
 fed s b (trapEvent regs pid block) number answer reply = cond (eqb number accepted) (bookAnswer b pid answer) b
 fed s b (scheduleEvent regs pid block) number answer reply = cond (eqb number accepted) (bookAnswer b pid answer) b
 fed s b (stateEvent regs pid value) number answer reply = b
@@ -187,7 +183,8 @@ realBy h s b = laidOver (trapBytes h) (sitesBy s b) (b .plain)
 unfoldable pub underTrap : Setup → Book → ℕ → Bool
 underTrap s b i = covered 2 (sitesBy s b) i
 
--- ---- reads by the book: "a Tmget served from the window, the bytes of Pass, what * reads"
+-- ---- reads by the book: "a Tmget served from the window, the bytes of Pass, what * reads, and any answer of window
+-- bytes that a later change adds"
 
 -- what a Tmget of the window replies
 unfoldable pub readBy : Setup → Book → ℕ → ℕ → List ℕ
@@ -199,11 +196,20 @@ fetchBy h s b a =
     cond (leb (s .base) a && leb (a + 4) (s .base + s .size))
     (Word (h .word (bytesAt (b .plain) (a - s .base) 4 4))) Outside
 
+-- Pass with plain memory's two bytes at a site
+unfoldable pub passBy : Setup → Book → ℕ → Answer
+passBy s b site = Pass (getD (b .plain) (site - s .base) 0) (getD (b .plain) (site - s .base + 1) 0)
+
+-- 02, Two: what a Tstart answers: of a process that was Stopped with the pc of its register block at a site, Pass
+unfoldable pub startBy : Setup → Book → List ℕ → ℕ → Answer
+startBy s b regs pid =
+    let pc = pcOf (blockAt regs (firstOf (eqb pid) (take (s .count) (s .pids)))) in
+    cond (among (b .stopped) pid && among (map (λ x. x .site) (b .breakpoints)) pc) (passBy s b pc) Nothing
+
 -- "An accepted trap event answers by its rule over the book's breakpoints and plain memory"
 unfoldable pub answerOf : Head → Setup → Book → ℕ → Breakpoint → Answer
 answerOf h s b pid x =
-    cond (evalFrom (fetchBy h s b) pid (x .elements) (1 ∷ [])) (Stop (x .id))
-    (Pass (getD (b .plain) (x .site - s .base) 0) (getD (b .plain) (x .site - s .base + 1) 0))
+    cond (evalFrom (fetchBy h s b) pid (x .elements) (1 ∷ [])) (Stop (x .id)) (passBy s b (x .site))
 
 unfoldable pub answerAmong : Head → Setup → Book → ℕ → ℕ → List Breakpoint → Answer
 answerAmong h s b pid pc [] = Nothing

@@ -3,7 +3,7 @@ use Prim.Native.Nat.{ℕ, _+_, _-_}
 use mathlib.Core.Bool.{Bool, cond, not, _&&_}
 use mathlib.Core.List.{List, [], _∷_}
 use lib.Dec.{ltb, eqb}
-use lib.ListN.{length, set}
+use lib.ListN.{length, getD, set}
 use Rattle.common.specs.First.{firstOf}
 use Rattle.memory.specs.Head.{Head, trapBytes}
 use Rattle.memory.specs.Overlay.{plainAt, plainOf, laidOver}
@@ -14,6 +14,8 @@ use Rattle.target.specs.Fresh.{freshEntry, closedDraft}
 use Rattle.target.specs.declared.Draft.{Draft}
 use Rattle.target.specs.declared.Entry.{Entry}
 use Rattle.target.specs.declared.Target.{Target}
+use Rattle.rules.specs.declared.Answer.{Answer}
+use Rattle.rules.specs.declared.Answer.the-variants.{Nothing, Pass}
 use Rattle.rules.specs.Outcome.{World, world}
 use Rattle.rules.specs.Record.{withTable, withEntries}
 
@@ -40,6 +42,18 @@ isAt address e = not (isFree e) && eqb (e .site) address
 -- the index of the breakpoint at an address, or the number of entries
 unfoldable pub breakpointAt : List Entry → ℕ → ℕ
 breakpointAt es address = firstOf (isAt address) es
+
+-- ---- what the kernel runs elsewhere in the place of the trap
+
+-- "Pass with the two plain bytes"
+unfoldable pub passOf : Entry → Answer
+passOf e = Pass (getD (e .plain) 0 0) (getD (e .plain) 1 0)
+
+-- the same of the breakpoint at an address; where there is none, no answer
+unfoldable pub passAt : List Entry → ℕ → Answer
+passAt es address =
+    let k = breakpointAt es address in
+    cond (ltb k (length es)) (passOf (entryAt es k)) Nothing
 
 -- ---- making one
 
@@ -71,10 +85,3 @@ removed w k =
     let e = entryAt (t .table .entries) k in
     world (withEntries t (set (t .table .entries) k freshEntry))
     (laidOver (e .plain) ((e .site - t .base) ∷ []) (w .mem)) (w .regs)
-
--- the breakpoint at an address removed, where there is one
-unfoldable pub removedAt : World → ℕ → World
-removedAt w address =
-    let es = w .target .table .entries in
-    let k = breakpointAt es address in
-    cond (ltb k (length es)) (removed w k) w

@@ -14,12 +14,12 @@ use Rattle.memory.specs.Head.{Head}
 use Rattle.request_parse.specs.Request.{parseOf}
 use Rattle.request_parse.specs.declared.Parsed.the-variants.{Request}
 use Rattle.target.specs.declared.Target.{Target}
-use Rattle.wire.specs.declared.Message.the-variants.{Tmget}
+use Rattle.wire.specs.declared.Message.the-variants.{Tmget, Tstart}
 use Rattle.rules.specs.declared.Answer.{Answer}
 use Rattle.rules.specs.Outcome.{Outcome}
 use Rattle.rules.specs.Step.{Setup, setupBy, isAccepted, Step, request, trapEvent, restartStep, stepOf}
 use Rattle.rules.specs.Book.{Book, opened, withPlain, fed, inWindow, readBy, realBy, underTrap, trapBy}
-use Rattle.rules.specs.Book.{trapNumber}
+use Rattle.rules.specs.Book.{trapNumber, startBy}
 
 -- ---- a stub: the record that it makes of a setup, and what it does with a record, the memory that stands and a step
 
@@ -58,6 +58,7 @@ pub data Part : Type 0 where
   readsPart : Part
   trappedPart : Part
   trapPart : Part
+  startPart : Part
   restartPart : Part
 
 unfoldable pub Says : Part → Head → Setup → Book → Step → Outcome → Shown → Type 0
@@ -79,6 +80,10 @@ Says trappedPart h s b e r o =
 Says trapPart h s b e r o =
     (regs block : List ℕ) (pid : ℕ) → e ≡ trapEvent regs pid block → o .number ≡ accepted
     → o .answer ≡ trapBy h s b pid block
+-- 02, Two: an accepted Tstart answers with plain memory's bytes where the process was Stopped at a breakpoint
+Says startPart h s b e r o =
+    (regs bytes buffer : List ℕ) (pid : ℕ) → e ≡ request regs bytes buffer → parseOf bytes ≡ Request (Tstart pid)
+    → isAccepted (o .number) (o .reply) ≡ true → o .answer ≡ startBy s b regs pid
 -- "every trap's plain bytes go back": an accepted restart leaves plain memory
 Says restartPart h s b e r o = (regs buffer : List ℕ) → e ≡ restartStep regs buffer → o .number ≡ accepted
     → o .mem ≡ b .plain
@@ -91,6 +96,7 @@ pub record Right (h : Head) (s : Setup) (b : Book) (e : Step) (r : Outcome) (o :
   pub reads : Says readsPart h s b e r o
   pub trapped : Says trappedPart h s b e r o
   pub trap : Says trapPart h s b e r o
+  pub start : Says startPart h s b e r o
   pub restart : Says restartPart h s b e r o
 
 -- ---- lists: a step with everything that is lent to it, or an outside change of one byte of memory, by its offset

@@ -1,9 +1,9 @@
 -- 01, "Steps and numbers": the events of the kernel, over a fit record and buffers of the right size.
-use Prim.Native.Nat.{ℕ, _+_, _-_}
+use Prim.Native.Nat.{ℕ, _+_}
 use mathlib.Core.Bool.{Bool, cond, _||_}
 use mathlib.Core.List.{List, [], _++_, map}
 use lib.Dec.{ltb, eqb}
-use lib.ListN.{length, getD, take, drop}
+use lib.ListN.{length, take, drop}
 use Rattle.common.specs.Numbers.{unlistedPid, stoppedProcess, noSite}
 use Rattle.condition.specs.Evaluate.{evaluateOf, fetchOf}
 use Rattle.target_fit.specs.Fit.{stopped, processAt, entryAt}
@@ -14,10 +14,10 @@ use Rattle.target.specs.declared.Process.{Process}
 use Rattle.target.specs.declared.Target.{Target}
 use Rattle.wire.specs.declared.Message.the-variants.{Rerr}
 use Rattle.wire_text.specs.declared.Reason.the-variants.{Reset}
-use Rattle.rules.specs.declared.Answer.the-variants.{Nothing, Stop, Pass, Yes, No}
+use Rattle.rules.specs.declared.Answer.the-variants.{Nothing, Stop, Yes, No}
 use Rattle.rules.specs.Outcome.{World, world, Outcome, answered, refused, replied}
 use Rattle.rules.specs.Record.{ready, indexOf, withState, setState, isStopped, pcOf, stopWith}
-use Rattle.rules.specs.Breakpoint.{sites, plains, plainMemory, breakpointAt}
+use Rattle.rules.specs.Breakpoint.{sites, plains, plainMemory, breakpointAt, passOf}
 
 -- number 4: "event names an unlisted pid"
 unfoldable pub onListed : World → ℕ → (ℕ → Process → Outcome) → Outcome
@@ -38,8 +38,7 @@ holds h w pid e =
 -- changes, answer Pass"
 unfoldable pub trapped : Head → World → ℕ → ℕ → List ℕ → Entry → Outcome
 trapped h w i pid block e =
-    cond (holds h w pid e) (answered (Stop (e .id)) (stopWith w i block))
-    (answered (Pass (getD (e .plain) 0 0) (getD (e .plain) 1 0)) w)
+    cond (holds h w pid e) (answered (Stop (e .id)) (stopWith w i block)) (answered (passOf e) w)
 
 -- numbers 5 and 6: "trap .. for a Stopped process"; "trap whose pc is at no site"
 unfoldable pub trap : Head → World → ℕ → List ℕ → Outcome

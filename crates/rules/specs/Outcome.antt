@@ -39,9 +39,13 @@ refused n w reply = outcome n Nothing w reply
 unfoldable pub answered : Answer → World → Outcome
 answered a w = outcome accepted a w []
 
+-- number 0, with a reply and an answer beside it
+unfoldable pub repliedWith : Answer → Message → World → Outcome
+repliedWith a m w = outcome accepted a w (bytesOf m)
+
 -- number 0, with a reply
-unfoldable pub replied : Message → World → Outcome
-replied m w = outcome accepted Nothing w (bytesOf m)
+abbrev pub replied : Message → World → Outcome
+replied m w = repliedWith Nothing m w
 
 -- number 0, with Rerr
 unfoldable pub error : Reason → World → Outcome
@@ -56,7 +60,8 @@ answerBytes Yes = 1 ∷ []
 answerBytes No = 0 ∷ []
 
 -- what the program writes of a step: "It writes the number, then ten bytes for 1 and 5; 01 id or 02 and two bytes for
--- 2; 00 or 01 for 3. A step whose number is not 0 writes its number only"
+-- 2; 00 or 01 for 3. A step whose number is not 0 writes its number only"; 02, Two: "The program writes 02 and the two
+-- bytes after such a reply"
 unfoldable pub shownWith : ℕ → List ℕ → List ℕ
 shownWith number bytes = number ∷ cond (eqb number 0) bytes []
 

@@ -1,5 +1,5 @@
 -- 01, "Ten bytes (000)": the requests.
-use Prim.Native.Nat.{ℕ, zero, _+_, _-_, _*_}
+use Prim.Native.Nat.{ℕ, _+_, _-_, _*_}
 use Prim.Native.Char.{code}
 use mathlib.Core.Bool.{Bool, cond, not, _&&_}
 use mathlib.Core.List.{List, [], _∷_}
@@ -28,9 +28,9 @@ use Rattle.wire.specs.declared.Message.the-variants.{Rerr, Rmget, Rmput, Rproc,
 use Rattle.wire.specs.declared.Message.the-variants.{Rcondbreak}
 use Rattle.wire_text.specs.declared.Reason.{Reason}
 use Rattle.wire_text.specs.declared.Reason.the-variants.{Inval, Pid, Notstop}
-use Rattle.rules.specs.Outcome.{World, world, Outcome, replied, error, refused}
+use Rattle.rules.specs.Outcome.{World, world, Outcome, repliedWith, replied, error, refused}
 use Rattle.rules.specs.Record.{ready, withEntries, withCurrent, indexOf, setState, isStopped, blockAt, pcOf}
-use Rattle.rules.specs.Breakpoint.{sites, plains, removedAt}
+use Rattle.rules.specs.Breakpoint.{sites, plains, passAt}
 use Rattle.rules.specs.Condition.{failed, condbreak}
 
 -- ---- "below 136 it is the current process's block: none current gives pid, not Stopped gives notstop"
@@ -133,17 +133,18 @@ rnote w pid = onProcess w pid (λ i p. replied Rrnote w)
 unfoldable pub stop : World → ℕ → Outcome
 stop w pid =
     onProcess w pid
-    (λ i p. replied Rstop (cond (isStopped p) w (withTarget w (setState (w .target) i (p .state) 1))))
+    (λ i p. cond (isStopped p) (replied Rstop w) (replied Rstop (withTarget w (setState (w .target) i (p .state) 1))))
 
--- "clears the mark; a Stopped process becomes Ready, and a breakpoint at its saved pc is removed"
+-- "clears the mark; a Stopped process becomes Ready". 02, Two: "Now Tstart removes no breakpoint. If the process was
+-- Stopped with its saved pc at a site, the kernel's answer carries the reply and the two plain bytes, as Pass does"
 unfoldable pub start : World → ℕ → Outcome
 start w pid =
     onProcess w pid
     (λ i p.
-    replied Rstart
-    (cond (isStopped p)
-    (removedAt (withTarget w (setState (w .target) i ready 0)) (pcOf (blockAt (w .regs) i)))
-    (withTarget w (setState (w .target) i (p .state) 0))))
+    cond (isStopped p)
+    (repliedWith (passAt (w .target .table .entries) (pcOf (blockAt (w .regs) i))) Rstart
+    (withTarget w (setState (w .target) i ready 0)))
+    (replied Rstart (withTarget w (setState (w .target) i (p .state) 0))))
 
 -- ---- a request that is a message
 

@@ -22,13 +22,13 @@ use Rattle.rules.specs.Outcome.{World, world, Outcome, outcome, answered
 use Rattle.rules.specs.Record.{withEntries}
 use Rattle.rules.specs.Request.{withPlains}
 use Rattle.rules.specs.Condition.{dropped}
-use Rattle.rules.specs.Breakpoint.{sites, plainMemory}
-use Rattle.rules.specs.Step.{Setup, setupBy, Step, request, trapEvent, scheduleEvent, stateEvent, restartStep}
+use Rattle.rules.specs.Breakpoint.{sites, plainMemory, removed}
+use Rattle.rules.specs.Step.{setupBy, Step, request, trapEvent, scheduleEvent, stateEvent, restartStep}
 use Rattle.rules.specs.Step.{stepOf}
 use Rattle.rules.specs.Book.{Book, opened, fed, realBy}
 use Rattle.rules.specs.Claim.{Stub, stubOf, Part, Says}
 use Rattle.rules.specs.Claim.{numberPart, answerPart, replyPart, fitPart, readsPart, trappedPart, trapPart}
-use Rattle.rules.specs.Claim.{restartPart}
+use Rattle.rules.specs.Claim.{startPart, restartPart}
 use Rattle.rules.specs.Worked.{workedSetup}
 
 abbrev pub Acts : Type 0
@@ -100,6 +100,14 @@ readsReal k = changing k (λ t mem e o.
     let trapsOnly = laidOver (trapBytes house) (0 ∷ 2 ∷ 4 ∷ 6 ∷ 8 ∷ 10 ∷ 12 ∷ 14 ∷ []) (replicate 16 0) in
     let v = stepOf house (withEntries t (withPlains (t .table .entries) trapsOnly)) mem e in
     outcome (v .number) (v .answer) (o .after) (v .reply))
+
+-- removes the breakpoint at a continue, as before 02, Two: the first one of the table
+unfoldable pub removesAtStart : Acts
+removesAtStart = requestLeaving (λ bytes reply. eqb (getD reply 0 0) 0x0f) (λ w. removed w 0)
+
+-- answers nothing beside a reply
+unfoldable pub answersNothing : Acts
+answersNothing = changing 1 (λ t mem e o. outcome (o .number) Nothing (o .after) (o .reply))
 
 -- finds no breakpoint at a trap
 unfoldable pub findsNoSite : Acts
@@ -198,6 +206,13 @@ asking b = request zeroed (highFirst 10 b) (replicate 10 0)
 abbrev pub trapAt : Step
 trapAt = trapEvent zeroed 5 (replicate pcOffset 0 ++ highFirst 4 4_104)
 
+-- the register area after it, and a continue of that process
+abbrev pub stoppedArea : List ℕ
+stoppedArea = replicate pcOffset 0 ++ (highFirst 4 4_104 ++ replicate blockSize 0)
+
+abbrev pub continued : Step
+continued = request stoppedArea (highFirst 10 0x0e_00000005_0000000000) (replicate 10 0)
+
 abbrev pub scheduled : Step
 scheduled = scheduleEvent zeroed 5 (replicate blockSize 0)
 
@@ -249,6 +264,9 @@ stubRows r =
     memory plantsNothing case4 ∷
     part readsPart (readsReal 1) case4 twoBytes ∷
     part trapPart (readsReal 2) case10 trapAt ∷
+    part startPart (readsReal 1) (case4 ++ (trapAt ∷ [])) continued ∷
+    part startPart answersNothing (case4 ++ (trapAt ∷ [])) continued ∷
+    memory removesAtStart (case4 ++ (trapAt ∷ continued ∷ [])) ∷
     part trappedPart findsNoSite case4 trapAt ∷
     part answerPart neverStops (asking 0x0c_00000005_0000000000 ∷ []) scheduled ∷
     part numberPart acceptsStates [] (stateEvent zeroed 5 8) ∷

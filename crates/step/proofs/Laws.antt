@@ -2,11 +2,10 @@
 -- each kind.
 -- Assumes nothing.
 use mathlib.Core.Path.{_≡_, refl, ap, _∙_}
-use mathlib.Core.Bool.{Bool, true, false, cond, not, _&&_, and-false}
+use mathlib.Core.Bool.{Bool, true, false, not, _&&_, and-false}
 use mathlib.Core.List.{List, []}
-use Prim.Native.Nat.{ℕ, _*_}
+use Prim.Native.Nat.{ℕ}
 use borrow.Author.Tests.{eq-eqb, eqb-true, not-true, not-false}
-use lib.Dec.{leb, eqb}
 use lib.ListN.{length}
 use Rattle.common.proofs.Cases.{on-test}
 use Rattle.common.proofs.Same.{parts}
@@ -20,8 +19,8 @@ use Rattle.request_parse.specs.Request.{parseOf}
 use Rattle.request_parse.specs.declared.Parsed.{Parsed}
 use Rattle.step_effect.specs.Change.{applied}
 use Rattle.rules.specs.Event.{trap, schedule, state, restart}
-use Rattle.rules.specs.Outcome.{World, Outcome, refused, replied}
-use Rattle.step_effect.specs.Ready.{Ready, servedOutcome, effectOutcome}
+use Rattle.rules.specs.Outcome.{World, Outcome, refused, repliedWith}
+use Rattle.step_effect.specs.Ready.{Ready, ReadyAll, servedOutcome, effectOutcome}
 use Rattle.rules.specs.Request.{requestBy}
 use Rattle.rules.specs.Step.{sized, checked, requestOf, trapOf, scheduleOf, stateOf, restartOf}
 use Rattle.rules.specs.declared.Answer.the-variants.{Nothing}
@@ -59,20 +58,21 @@ module _ (kind : StepKind) (input reply : ℕ) (e : lentRight kind input reply �
 pub ready-by : (w : World) (b : Bool) → b ≡ sized w → not b ≡ false
     → (s : Scan) → s ≡ scanOf (fitOf house (w .target) (w .mem)) (w .target .base) (w .target .table .entries)
     → not (s .fit) ≡ false
-    → Ready house (w .target) s (w .mem) (w .regs)
+    → ReadyAll house (w .target) s (w .mem) (w .regs)
 unfolding sized scanOf
 ready-by w b e h s f g =
     let fit = answered-yes _ _ (scan-fit _ _ _ s f) g in
     let whole = scan-is _ _ _ s f fit in
     let both = answered-yes _ _ e h in
+    let table : Ready house (w .target) s (w .mem) =
     record {
       fit = fit;
       ids = ap (λ (x : Scan). x .ids) whole;
       sites = ap (λ (x : Scan). x .sites) whole;
       plain = ap (λ (x : Scan). x .plain) whole;
       memory = search parts;
-      registers = search parts;
-    }
+    } in
+    (table, search parts)
 
 -- ---- the step of each kind
 
@@ -130,10 +130,10 @@ module _ (kind : StepKind) (w : World) (pid value : ℕ) (input reply : List ℕ
         rw (← e, not-false b h, lent, u) at tested
 
     -- and the step is taken
-    module _ (s : Scan) (ok : Ready house (w .target) s (w .mem) (w .regs)) where
+    module _ (s : Scan) (ok : ReadyAll house (w .target) s (w .mem) (w .regs)) where
       pub taken : (k : StepKind) → kind ≡ k → bodyOf k ≡ stepBy kind w pid value input reply
       unfolding checked sized
-      taken k e = rw (← e) (rw (eq-eqb _ _ (ok .memory), eq-eqb _ _ (ok .registers), lent, ok .fit) at tested)
+      taken k e = rw (← e) (rw (eq-eqb _ _ (ok .0 .memory), eq-eqb _ _ (ok .1), lent, ok .0 .fit) at tested)
 
 -- an event's change, with the reply as it was
 pub leaves : (t : Target) (d : Effect) (mem regs reply : List ℕ) (o : Outcome) → effectOutcome t d mem regs [] ≡ o
@@ -143,18 +143,18 @@ leaves t d mem regs reply o e = ap (leaving reply) e
 
 -- ---- a restart
 
-pub restart-as : (w : World) (s : Scan) → Ready house (w .target) s (w .mem) (w .regs)
+pub restart-as : (w : World) (s : Scan) → Ready house (w .target) s (w .mem)
     → (d : Effect) (mem reply : List ℕ)
     → d ≡ effect 0 Nothing Restart → mem ≡ plainOf 2 (s .sites) (s .plain) (w .mem) → reply ≡ bytesOf (Rerr Reset)
     → effectOutcome (w .target) d mem (w .regs) reply ≡ restart w
-unfolding restart replied applied
+unfolding restart repliedWith applied
 restart-as w s ok d mem reply q m r = rw (q, m, ok .sites, ok .plain, r)
 
 -- ---- a request
 
 -- what an accepted request gives back
 pub accepts : (t : Target) (s : Served) (d : Effect) (reply mem regs : List ℕ)
-    → (d ≡ record { number = 0; answer = Nothing; change = s .change; plain = s .plain }) × (reply ≡ s .bytes)
+    → (d ≡ record { number = 0; answer = s .answer; change = s .change; plain = s .plain }) × (reply ≡ s .bytes)
     → effectOutcome t d mem regs reply ≡ servedOutcome t s mem regs
 accepts t s d reply mem regs e = rw (e .0, e .1)
 

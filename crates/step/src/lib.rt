@@ -13,13 +13,14 @@ use wire::Message;
 use wire_text::Reason;
 ghost use mathlib.Core.Path.{_≡_};
 ghost use mathlib.Core.Bool.{_&&_};
-ghost use Prim.Native.Nat.{_*_};
+ghost use mathlib.Core.List.{List};
+ghost use Prim.Native.Nat.{ℕ, _*_};
 ghost use lib.Dec.{eqb};
 ghost use lib.ListN.{length};
 ghost use Rattle.memory.specs.Head.{house};
 ghost use Rattle.request_parse.specs.Request.{parseOf};
 ghost use Rattle.rules.specs.Outcome.{world};
-ghost use Rattle.step_effect.specs.Ready.{Ready, effectOutcome};
+ghost use Rattle.step_effect.specs.Ready.{Ready, ReadyAll, effectOutcome};
 ghost use Rattle.rules.specs.Request.{requestBy};
 ghost use Rattle.rules.specs.Event.{restart as restartRule};
 ghost use Rattle.rules.specs.declared.Answer.the-variants as answer;
@@ -47,19 +48,20 @@ fn lent_right(kind: StepKind, input: usize, reply: usize) -> bool
     }
 }
 
-// An accepted request: its change of the record, and its ten bytes in the reply.
+// An accepted request: its answer and its change of the record, and its ten bytes in the reply.
 fn accepted(done: Served, reply: &mut [u8]) -> Effect
     requires { ⌜ length (now reply) ≡ 10 ⌝ }
-    ensures { λ r. ⌜ (r ≡ record { number = 0; answer = answer.Nothing; change = done .change; plain = done .plain })
+    ensures { λ r. ⌜ (r ≡ record { number = 0; answer = done .answer; change = done .change; plain = done .plain })
         × (now (reply .exit) ≡ done .bytes) ⌝ }
 {
+    let answer = done.answer;
     let change = done.change;
     let plain = done.plain;
     let bytes = done.bytes;
     common::copy(reply, &bytes);
     Effect {
         number: common::ACCEPTED,
-        answer: Answer::Nothing,
+        answer,
         change,
         plain: plain,
     }
@@ -74,7 +76,7 @@ fn request(
     bytes: &[u8],
     reply: &mut [u8],
 ) -> Effect
-    requires { ⌜ Ready house t s (now mem) (now regs) ⌝ }
+    requires { ⌜ ReadyAll house t s (now mem) (now regs) ⌝ }
     requires { ⌜ (length (now bytes) ≡ 10) × (length (now reply) ≡ 10) ⌝ }
     ensures { λ r. ⌜ effectOutcome t r (now (mem .exit)) (now (regs .exit)) (now (reply .exit))
         ≡ requestBy house (parseOf (now (bytes .entry))) (world t (now (mem .entry)) (now (regs .entry)))
@@ -95,11 +97,10 @@ fn request(
 }
 
 // A restart: every trap's plain bytes go back.
-fn restart<'a>(t: Target, s: Scan, mem: &'a mut [u8], regs: &'a [u8], reply: &'a mut [u8]) -> Effect
-    requires { ⌜ Ready house t s (now mem) (now regs) ⌝ }
-    requires { ⌜ length (now reply) ≡ 10 ⌝ }
-    ensures { λ r. ⌜ effectOutcome t r (now (mem .exit)) (now (regs .entry)) (now (reply .exit))
-        ≡ restartRule (world t (now (mem .entry)) (now (regs .entry))) ⌝ }
+fn restart(t: Target, s: Scan, mem: &mut [u8], reply: &mut [u8]) -> Effect
+    requires { ⌜ Ready house t s (now mem) × (length (now reply) ≡ 10) ⌝ }
+    ensures { λ r. ⌜ ((regs : List ℕ) → effectOutcome t r (now (mem .exit)) regs (now (reply .exit))
+        ≡ restartRule (world t (now (mem .entry)) regs)) ⌝ }
 {
     let sites = s.sites;
     let plain = s.plain;
@@ -141,6 +142,6 @@ pub fn step(
         StepKind::Trap => event::trap(t, s, mem, regs, pid, input),
         StepKind::Schedule => event::schedule(t, regs, pid, input),
         StepKind::State => event::state(t, pid, value),
-        StepKind::Restart => restart(t, s, mem, regs, reply),
+        StepKind::Restart => restart(t, s, mem, reply),
     }
 }

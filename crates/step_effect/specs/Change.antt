@@ -10,12 +10,11 @@ use Rattle.target.specs.Free.{firstFree}
 use Rattle.target.specs.Fresh.{freshEntry, closedDraft}
 use Rattle.target.specs.declared.Draft.{Draft}
 use Rattle.target.specs.declared.Element.{Element}
-use Rattle.target.specs.declared.Entry.{Entry}
 use Rattle.target.specs.declared.Target.{Target}
 use Rattle.step_effect.specs.declared.Change.{Change}
 use Rattle.step_effect.specs.declared.Change.the-variants.{Same, Plain, Current, State, Begin, Add, Drop, Plant}
-use Rattle.step_effect.specs.declared.Change.the-variants.{Remove, Start, Restart}
-use Rattle.rules.specs.Record.{ready, withTable, withCurrent, withDraft, withEntries, setState}
+use Rattle.step_effect.specs.declared.Change.the-variants.{Remove, Restart}
+use Rattle.rules.specs.Record.{withTable, withCurrent, withDraft, withEntries, setState}
 use Rattle.rules.specs.Breakpoint.{entryWith}
 use Rattle.rules.specs.Condition.{begun}
 use Rattle.rules.specs.Request.{withPlains}
@@ -46,5 +45,4 @@ applied t (Plant site b0 b1) plain =
       draft = closedDraft;
     })
 applied t (Remove k) plain = withoutEntry t k
-applied t (Start i k) plain = withoutEntry (setState t i ready 0) k
 applied t Restart plain = afterRestart t

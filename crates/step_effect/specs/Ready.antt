@@ -11,23 +11,25 @@ use Rattle.target_fit.specs.declared.Scan.{Scan}
 use Rattle.memory.specs.Head.{Head}
 use Rattle.target.specs.Limits.{blockSize}
 use Rattle.target.specs.declared.Target.{Target}
-use Rattle.rules.specs.declared.Answer.the-variants.{Nothing}
 use Rattle.step_effect.specs.declared.Effect.{Effect}
 use Rattle.step_effect.specs.declared.Served.{Served}
 use Rattle.step_effect.specs.Change.{applied}
 use Rattle.rules.specs.Outcome.{world, Outcome, outcome}
 
-pub record Ready (h : Head) (t : Target) (s : Scan) (mem regs : List ℕ) : Type 0 where
+pub record Ready (h : Head) (t : Target) (s : Scan) (mem : List ℕ) : Type 0 where
   pub fit : fitOf h t mem ≡ true
   pub ids : s .ids ≡ idsOf (t .table .entries)
   pub sites : s .sites ≡ sitesOf (t .base) (t .table .entries)
   pub plain : s .plain ≡ plainsOf (t .table .entries)
   pub memory : length mem ≡ t .size
-  pub registers : length regs ≡ blockSize * t .count
+
+-- and with a register area of its size
+abbrev pub ReadyAll : Head → Target → Scan → List ℕ → List ℕ → Type 0
+ReadyAll h t s mem regs = Ready h t s mem × (length regs ≡ blockSize * t .count)
 
 -- an accepted request over a record, with what it leaves
 abbrev pub servedOutcome : Target → Served → List ℕ → List ℕ → Outcome
-servedOutcome t r mem regs = outcome 0 Nothing (world (applied t (r .change) (r .plain)) mem regs) (r .bytes)
+servedOutcome t r mem regs = outcome 0 (r .answer) (world (applied t (r .change) (r .plain)) mem regs) (r .bytes)
 
 -- a step over a record, with what it leaves
 abbrev pub effectOutcome : Target → Effect → List ℕ → List ℕ → List ℕ → Outcome

@@ -4,6 +4,7 @@ use target::Table;
 use target::Target;
 ghost use mathlib.Core.Path.{_≡_};
 ghost use lib.ListN.{replicate};
+ghost use Rattle.rules.specs.declared.Answer.the-variants as answer;
 ghost use Rattle.step_effect.specs.declared.Change.the-variants as change;
 
 // The number, the answer and the record that a step gives back.
@@ -33,8 +34,6 @@ pub enum Change {
     Plant(u32, u8, u8),
     // the entry at an index is free
     Remove(usize),
-    // the process at the first index is Ready and unmarked, the entry at the second is free
-    Start(usize, usize),
     // a restart: no breakpoint, nothing in hand, none current, no mark, nobody Stopped
     Restart,
 }
@@ -48,23 +47,34 @@ pub struct Effect {
     pub plain: [u8; Table::PLAIN],
 }
 
-// What an accepted request gives: what it changes in the record, the entries' plain bytes, and the reply's ten bytes.
+// What an accepted request gives: its answer, what it changes in the record, the entries' plain bytes, and the reply's
+// ten bytes.
 pub struct Served {
+    pub answer: Answer,
     pub change: Change,
     pub plain: [u8; Table::PLAIN],
     pub bytes: [u8; 10],
 }
 
 impl Served {
-    // A change other than of plain bytes.
-    pub fn with(change: Change, bytes: [u8; 10]) -> Served
-        ensures { λ r. ⌜ r ≡ record { change = change; plain = replicate 16 0; bytes = bytes } ⌝ }
+    // A change other than of plain bytes, with an answer.
+    pub fn answering(answer: Answer, change: Change, bytes: [u8; 10]) -> Served
+        ensures { λ r. ⌜ r ≡ record { answer = answer; change = change; plain = replicate 16 0; bytes = bytes } ⌝ }
     {
         Served {
+            answer,
             change,
             plain: [0; Table::PLAIN],
             bytes: bytes,
         }
+    }
+
+    // A change other than of plain bytes.
+    pub fn with(change: Change, bytes: [u8; 10]) -> Served
+        ensures { λ r. ⌜ r
+            ≡ record { answer = answer.Nothing; change = change; plain = replicate 16 0; bytes = bytes } ⌝ }
+    {
+        Served::answering(Answer::Nothing, change, bytes)
     }
 }
 

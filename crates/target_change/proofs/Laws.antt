@@ -20,7 +20,7 @@ use Rattle.rules.specs.Record.{ready, isStopped, withTable, withEntries, withDr
 use Rattle.rules.specs.Record.{withState, setState}
 use Rattle.step_effect.specs.declared.Change.{Change}
 use Rattle.step_effect.specs.declared.Change.the-variants.{Same, Plain, Current, State, Begin, Add, Drop, Plant, Remove}
-use Rattle.step_effect.specs.declared.Change.the-variants.{Start, Restart}
+use Rattle.step_effect.specs.declared.Change.the-variants.{Restart}
 use Rattle.step_effect.proofs.Change.{the-type}
 use Rattle.target.specs.Fresh.{noProcess}
 use Rattle.target.specs.declared.Process.{Process}
@@ -42,12 +42,11 @@ keeps-processes t (Add letter value) plain e = refl
 keeps-processes t Drop plain e = refl
 keeps-processes t (Plant site b0 b1) plain e = refl
 keeps-processes t (Remove k) plain e = refl
-keeps-processes t (Start i k) plain e = true-or-false e
 keeps-processes t Restart plain e = true-or-false e
 
 -- whether a process is current, and which
 pub keeps-current : (t : Target) (c : Change) (plain : List ℕ)
-    → among (0 ∷ 1 ∷ 3 ∷ 4 ∷ 5 ∷ 6 ∷ 7 ∷ 8 ∷ 9 ∷ []) (tagOf the-type c) ≡ true
+    → among (0 ∷ 1 ∷ 3 ∷ 4 ∷ 5 ∷ 6 ∷ 7 ∷ 8 ∷ []) (tagOf the-type c) ≡ true
     → (applied t c plain .selected ≡ t .selected) × (applied t c plain .current ≡ t .current)
 unfolding among applied withTable withEntries withDraft withProcesses setState
 keeps-current t Same plain e = (refl, refl)
@@ -59,10 +58,9 @@ keeps-current t (Add letter value) plain e = (refl, refl)
 keeps-current t Drop plain e = (refl, refl)
 keeps-current t (Plant site b0 b1) plain e = (refl, refl)
 keeps-current t (Remove k) plain e = (refl, refl)
-keeps-current t (Start i k) plain e = (refl, refl)
 keeps-current t Restart plain e = true-or-false e
 
-pub keeps-draft : (t : Target) (c : Change) (plain : List ℕ) → among (0 ∷ 1 ∷ 2 ∷ 3 ∷ 8 ∷ 9 ∷ []) (tagOf the-type c)
+pub keeps-draft : (t : Target) (c : Change) (plain : List ℕ) → among (0 ∷ 1 ∷ 2 ∷ 3 ∷ 8 ∷ []) (tagOf the-type c)
     ≡ true
     → applied t c plain .table .draft ≡ t .table .draft
 unfolding among applied withTable withEntries withCurrent withProcesses setState
@@ -75,7 +73,6 @@ keeps-draft t (Add letter value) plain e = true-or-false e
 keeps-draft t Drop plain e = true-or-false e
 keeps-draft t (Plant site b0 b1) plain e = true-or-false e
 keeps-draft t (Remove k) plain e = refl
-keeps-draft t (Start i k) plain e = refl
 keeps-draft t Restart plain e = true-or-false e
 
 -- ---- the record, of its parts
@@ -102,7 +99,6 @@ of-parts t (Add letter value) plain = refl
 of-parts t Drop plain = refl
 of-parts t (Plant site b0 b1) plain = refl
 of-parts t (Remove k) plain = refl
-of-parts t (Start i k) plain = refl
 of-parts t Restart plain = refl
 
 -- ---- a process's state set, then its mark

@@ -64,7 +64,6 @@ pub fn processes_after(
 {
     match c {
         Change::State(i, state, wanted) => set_process(ps, i, state, wanted),
-        Change::Start(i, _) => set_process(ps, i, Process::READY, 0),
         Change::Restart => restart_processes(count, ps),
         _ => ps,
     }

@@ -22,7 +22,7 @@ use Rattle.rules.specs.Request.{withPlains}
 use Rattle.rules.proofs.Slots.{withPlain, length-with, with-at}
 use Rattle.step_effect.specs.declared.Change.{Change}
 use Rattle.step_effect.specs.declared.Change.the-variants.{Same, Plain, Current, State, Begin, Add, Drop, Plant, Remove}
-use Rattle.step_effect.specs.declared.Change.the-variants.{Start, Restart}
+use Rattle.step_effect.specs.declared.Change.the-variants.{Restart}
 use Rattle.step_effect.proofs.Change.{the-type}
 use Rattle.target.specs.Fresh.{noEntry, freshEntry}
 use Rattle.target.specs.declared.Draft.{Draft}
@@ -34,7 +34,7 @@ use Rattle.target_entries.specs.Entries.{entriesAfter, indexAfter, entry
 
 -- ---- a change of one entry
 
-pub one-entry : (u : Table) (c : Change) (plain : List ℕ) → among (7 ∷ 8 ∷ 9 ∷ []) (tagOf the-type c) ≡ true
+pub one-entry : (u : Table) (c : Change) (plain : List ℕ) → among (7 ∷ 8 ∷ []) (tagOf the-type c) ≡ true
     → set (u .entries) (indexAfter u c) (entryAfter (u .draft) c) ≡ entriesAfter u c plain
 unfolding among applied withTable withEntries withProcesses setState entriesAfter indexAfter entryAfter
 one-entry u Same plain e = true-or-false e
@@ -46,11 +46,10 @@ one-entry u (Add letter value) plain e = true-or-false e
 one-entry u Drop plain e = true-or-false e
 one-entry u (Plant site b0 b1) plain e = refl
 one-entry u (Remove k) plain e = refl
-one-entry u (Start i k) plain e = refl
 one-entry u Restart plain e = true-or-false e
 
 -- the index of no entry
-pub no-index : (u : Table) (c : Change) → among (0 ∷ 1 ∷ 2 ∷ 3 ∷ 4 ∷ 5 ∷ 6 ∷ 10 ∷ []) (tagOf the-type c) ≡ true
+pub no-index : (u : Table) (c : Change) → among (0 ∷ 1 ∷ 2 ∷ 3 ∷ 4 ∷ 5 ∷ 6 ∷ 9 ∷ []) (tagOf the-type c) ≡ true
     → 8 ≡ indexAfter u c
 unfolding among indexAfter
 no-index u Same e = refl
@@ -62,10 +61,9 @@ no-index u (Add letter value) e = refl
 no-index u Drop e = refl
 no-index u (Plant site b0 b1) e = true-or-false e
 no-index u (Remove k) e = true-or-false e
-no-index u (Start i k) e = true-or-false e
 no-index u Restart e = refl
 
-pub free-entry : (d : Draft) (c : Change) → among (0 ∷ 1 ∷ 2 ∷ 3 ∷ 4 ∷ 5 ∷ 6 ∷ 8 ∷ 9 ∷ 10 ∷ []) (tagOf the-type c)
+pub free-entry : (d : Draft) (c : Change) → among (0 ∷ 1 ∷ 2 ∷ 3 ∷ 4 ∷ 5 ∷ 6 ∷ 8 ∷ 9 ∷ []) (tagOf the-type c)
     ≡ true
     → freshEntry ≡ entryAfter d c
 unfolding among entryAfter
@@ -78,7 +76,6 @@ free-entry d (Add letter value) e = refl
 free-entry d Drop e = refl
 free-entry d (Plant site b0 b1) e = true-or-false e
 free-entry d (Remove k) e = refl
-free-entry d (Start i k) e = refl
 free-entry d Restart e = refl
 
 -- ---- entries with their plain bytes taken from the slots' bytes, one after the other

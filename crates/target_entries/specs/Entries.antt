@@ -6,7 +6,7 @@ use Rattle.step_effect.specs.Change.{applied}
 use Rattle.rules.specs.Record.{withTable}
 use Rattle.step_effect.specs.declared.Change.{Change}
 use Rattle.step_effect.specs.declared.Change.the-variants.{Same, Plain, Current, State, Begin, Add, Drop, Plant, Remove}
-use Rattle.step_effect.specs.declared.Change.the-variants.{Start, Restart}
+use Rattle.step_effect.specs.declared.Change.the-variants.{Restart}
 use Rattle.target.specs.Free.{firstFree}
 use Rattle.target.specs.Fresh.{freshEntry, emptyTarget}
 use Rattle.target.specs.Limits.{maxEntries}
@@ -31,7 +31,6 @@ indexAfter u (Add letter value) = maxEntries
 indexAfter u Drop = maxEntries
 indexAfter u (Plant site b0 b1) = firstFree (u .entries)
 indexAfter u (Remove k) = k
-indexAfter u (Start i k) = k
 indexAfter u Restart = maxEntries
 
 -- what it becomes
@@ -45,5 +44,4 @@ entryAfter d (Add letter value) = freshEntry
 entryAfter d Drop = freshEntry
 entryAfter d (Plant site b0 b1) = entryWith d site (b0 ∷ b1 ∷ [])
 entryAfter d (Remove k) = freshEntry
-entryAfter d (Start i k) = freshEntry
 entryAfter d Restart = freshEntry

@@ -15,7 +15,6 @@ pub fn index_after(u: Table, c: Change) -> usize
     match c {
         Change::Plant(_, _, _) => u.first_free(),
         Change::Remove(k) => k,
-        Change::Start(_, k) => k,
         _ => Table::ENTRIES,
     }
 }

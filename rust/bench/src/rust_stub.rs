@@ -19,7 +19,7 @@ fn setup(stub: &mut Stub, lent: &Lent, base: u32, list: &[(u32, u32)]) -> Result
 }
 
 #[inline(never)]
-fn request(stub: &mut Stub, lent: &mut Lent, request: &[u8]) -> Result<(), Refusal> {
+fn request(stub: &mut Stub, lent: &mut Lent, request: &[u8]) -> Result<Option<[u8; 2]>, Refusal> {
     stub.request(&mut lent.memory, &mut lent.registers, request, &mut lent.reply)
 }
 
@@ -75,8 +75,8 @@ impl Side for RustStub {
 
     #[inline(always)]
     fn request(&mut self, bytes: &Request) -> u32 {
-        let done = black_box(request(&mut self.stub, &mut self.lent, bytes));
-        packed(done.map(|()| [0; 3]))
+        let plain = black_box(request(&mut self.stub, &mut self.lent, bytes));
+        packed(plain.map(|plain| plain.map_or([0; 3], |[first, second]| [2, first, second])))
     }
 
     #[inline(always)]

@@ -9,9 +9,10 @@ use sanirvoq::ffi;
 pub fn feed(book: &mut Book, call: &Call, registers: &[u8], proved: &Answer) -> Claim {
     let wrong = |_| "an accepted step has an input or a reply of wrong size";
     match (call.kind, proved.result) {
-        (Kind::Request, _) => {
+        (Kind::Request, [_, answer, first, second]) => {
             let request = call.input[..].try_into().map_err(wrong)?;
-            book.request(request, registers, proved.reply[..].try_into().map_err(wrong)?)?;
+            let reply = proved.reply[..].try_into().map_err(wrong)?;
+            book.request(request, registers, reply, (answer == 2).then_some([first, second]))?;
         }
         (Kind::Trap, [_, answer, first, second]) => {
             let pass = Verdict::Pass([first, second]);

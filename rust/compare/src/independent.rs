@@ -115,7 +115,10 @@ fn stub_step(
         }
         Kind::State => stub.state(memory, registers, call.pid, call.value).map(|()| [0; 3]),
         Kind::Restart => stub.restart(memory, registers, reply).map(|()| [0; 3]),
-        _ => stub.request(memory, registers, &call.input, reply).map(|()| [0; 3]),
+        _ => {
+            let plain = stub.request(memory, registers, &call.input, reply)?;
+            Ok(plain.map_or([0; 3], |plain| packed(Verdict::Pass(plain))))
+        }
     }
 }
 

@@ -1,7 +1,7 @@
 //! The two sides, with what both are lent. After every step, not at the end of a session only,
 //! these are compared, each whole and however large:
 //!
-//! - the number and the answer (all 32 bits of the result) and the reply buffer;
+//! - the number and the answer (all 32 bits of the result, of a request too) and the reply buffer;
 //! - memory and register area as they were lent to that step;
 //! - the record: what it shows of the window, the processes, the current one, the breakpoints and
 //!   the condition in hand (see [`shows`]); a record that cannot be fit, field by field;
@@ -68,6 +68,16 @@ pub struct Answer {
 impl Answer {
     pub fn number(&self) -> u8 {
         self.result[0]
+    }
+
+    /// What the program writes of it behind number 0.
+    pub fn written(&self, kind: Kind) -> Vec<u8> {
+        let answer = &self.result[1..];
+        match kind {
+            Kind::Request if answer[0] == 2 => [&self.reply, answer].concat(),
+            Kind::Request | Kind::Restart => self.reply.clone(),
+            _ => answer.to_vec(),
+        }
     }
 
     /// Whether a request was answered with Rerr.
@@ -429,6 +439,16 @@ mod tests {
             tell(pair.book.as_mut().unwrap());
             assert_eq!(pair.run(&op).err().unwrap().what, what);
         }
+    }
+
+    /// So is what a continue answers beside its reply.
+    #[test]
+    fn the_book_is_asked_after_a_continue() {
+        let mut pair = worked();
+        assert!(pair.run(&trap(7, 4_104)).is_ok());
+        pair.book.as_mut().unwrap().outside(9, 0xaa);
+        let what = "a start is not answered by the plain memory at its saved pc";
+        assert_eq!(pair.run(&request(14, 7, 0)).err().unwrap().what, what);
     }
 
     /// Damage that is not of its sort, and a setup that does not break its rule, are said.

@@ -84,11 +84,12 @@ impl Tally {
     }
 
     fn accepted(&mut self, call: &Call, pair: &Pair) {
-        let (answer, step) = (pair.answer(), call.step());
-        if let Some((step, scene)) = step.zip(pair.scene()) {
-            let replied = call.kind.reply().is_some();
-            let bytes = if replied { &answer.reply } else { &answer.result[1..] };
-            self.steps.answer(&step, bytes, scene.stub);
+        if let Some((step, scene)) = call.step().zip(pair.scene()) {
+            let answer = pair.answer().written(call.kind);
+            self.steps.answer(&step, &answer, scene.stub);
+            if pair.book().is_some() {
+                self.steps.continues.take(&step, &answer, scene.stub, scene.registers);
+            }
         }
         if call.kind == Kind::Trap {
             self.trap(call, pair);
@@ -96,6 +97,7 @@ impl Tally {
     }
 
     fn session(&mut self, (size, count): (u32, u32), pair: &Pair) {
+        self.steps.continues.begin();
         let row = WINDOWS.iter().position(|&(_, upto)| size <= upto).unwrap_or(0);
         self.windows[row] += 1;
         self.processes[count as usize - 1] += 1;
@@ -143,15 +145,18 @@ impl Tally {
     // ---- As a table. ----
 
     fn sections(&self) -> Vec<Section> {
-        let [mut by_number, by_type, by_answer, mut by_letter] = self.steps.sections(&NUMBERS);
+        let sections = self.steps.sections(&NUMBERS);
+        let [mut by_number, by_type, by_answer, mut by_pc, mut by_letter] = sections;
         by_number.row("outside change", must(&[self.outside]));
         by_number.row("register area replaced", must(&[self.areas]));
+        by_pc.row("Stopped, the register area replaced", must(&self.steps.continues.replaced()));
         by_letter.row("evaluated in a trap", letters_but(b"nbd", &self.evaluated));
         by_letter.row("* outside the window", must(&[self.read_outside]));
         vec![
             by_number,
             by_type,
             by_answer,
+            by_pc,
             by_letter,
             self.by_window(),
             self.by_rule(),

@@ -4,7 +4,8 @@ use compare::archive::{archive, Lent, Stub};
 use compare::op::{Call, Kind};
 use compare::record::Record;
 use compare::run::Runner;
-use reference::TRAP;
+use reference::{BLOCK, PC, STOPPED, TRAP};
+use sanirvoq::ffi::{Entry, Process};
 
 /// What the run says of a stub, if anything.
 fn found(stub: Stub, steps: u64) -> Option<String> {
@@ -64,6 +65,84 @@ fn numbers_and_answers() {
     for fault in faults {
         assert_eq!(found(fault, 50_000).as_deref(), Some("the number or the answer differs"));
     }
+}
+
+/// What a fault is told of an accepted Tstart: the process's index, whether it was Stopped, and the
+/// result. It gives another.
+type Start = fn(&mut Lent<'_>, usize, bool, u32) -> u32;
+
+/// Runs the archive, then the fault after an accepted Tstart.
+fn started(call: &Call, lent: &mut Lent<'_>, fault: Start) -> u32 {
+    let processes = lent.record.target().processes;
+    let result = archive(call, lent);
+    if !is_type(call, 14) || result as u8 != 0 || lent.reply[0] != 15 {
+        return result;
+    }
+    let named = |one: &Process| call.input[1..5] == one.pid.to_be_bytes();
+    let index = processes.iter().position(named).unwrap();
+    fault(lent, index, processes[index].state == STOPPED, result)
+}
+
+/// The breakpoint at the pc of this block.
+fn entry_at<'a>(lent: &'a mut Lent<'_>, block: usize) -> Option<&'a mut Entry> {
+    let pc = lent.registers[BLOCK * block + PC..].first_chunk().copied();
+    let pc = pc.map(u32::from_be_bytes);
+    let entries = &mut lent.record.target_mut().table.entries;
+    entries.iter_mut().find(|entry| entry.used == 1 && Some(entry.site) == pc)
+}
+
+/// The result of number 0 with the plain bytes of the breakpoint, if there is one.
+fn passed(entry: Option<&mut Entry>) -> u32 {
+    entry.map_or(0, |entry| u32::from_le_bytes([0, 2, entry.plain[0], entry.plain[1]]))
+}
+
+#[test]
+fn continues() {
+    let answers: [Stub; 4] = [
+        // The trap's bytes.
+        |call, lent| {
+            started(call, lent, |_, _, _, result| if result == 0 { 0 } else { 0x9002_0200 })
+        },
+        // None.
+        |call, lent| started(call, lent, |_, _, _, _| 0),
+        // Those of a process that was not Stopped, too.
+        |call, lent| started(call, lent, |lent, index, _, _| passed(entry_at(lent, index))),
+        // Those at the pc of the first process.
+        |call, lent| {
+            started(
+                call,
+                lent,
+                |lent, _, stopped, result| {
+                    if stopped {
+                        passed(entry_at(lent, 0))
+                    } else {
+                        result
+                    }
+                },
+            )
+        },
+    ];
+    for (i, fault) in answers.into_iter().enumerate() {
+        let what = Some("the number or the answer differs");
+        assert_eq!(found(fault, 50_000).as_deref(), what, "fault {i}");
+    }
+}
+
+/// Removes the breakpoint where a process goes on, as 01 has it without request Two of 02.
+#[test]
+fn a_continue_that_removes() {
+    let removes: Stub = |call, lent| {
+        started(call, lent, |lent, index, stopped, result| {
+            let base = lent.record.target().base;
+            if let Some(entry) = entry_at(lent, index).filter(|_| stopped) {
+                entry.used = 0;
+                let (at, plain) = ((entry.site - base) as usize, entry.plain);
+                lent.memory[at..at + 2].copy_from_slice(&plain);
+            }
+            result
+        })
+    };
+    assert_eq!(found(removes, 50_000).as_deref(), Some("memory differs"));
 }
 
 #[test]

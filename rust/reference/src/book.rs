@@ -89,20 +89,23 @@ impl Book {
         }
     }
 
-    /// A request of number 0, over the register area lent to it.
+    /// A request of number 0, over the register area lent to it, with its reply and the plain bytes
+    /// that the answer has beside it.
     pub fn request(
         &mut self,
         request: &[u8; MESSAGE],
         registers: &[u8],
         reply: &[u8; MESSAGE],
+        plain: Option<[u8; 2]>,
     ) -> Claim {
         let (number, one) = (word(&request[1..]), request[5]);
         match (request[0], reply[0]) {
+            (14, 15) => self.start(number, registers, plain),
+            _ if plain.is_some() => Err("plain bytes beside a reply that is not Rstart"),
             (_, 1) => Ok(()),
             (2, 3) => self.read(number, usize::from(one), &reply[1..]),
             (4, 5) => self.write(number, usize::from(one), &request[6..]),
             (6, 7) | (8, 9) | (10, 11) | (12, 13) => Ok(()),
-            (14, 15) => self.start(number, registers),
             (16, 17) => self.operation(one, number),
             _ => Err("the reply is of another type"),
         }
@@ -111,11 +114,10 @@ impl Book {
     /// A trap event of number 0 answers by the book's breakpoints and plain memory.
     pub fn trap(&mut self, pid: u32, block: &[u8; BLOCK], verdict: Verdict) -> Claim {
         let one = self.planted_at(word(&block[PC..])).ok_or("a trap where no breakpoint is")?;
-        let at = self.at(one);
         let expected = if self.evaluate(&one.condition.elements, pid)?.holds {
             Verdict::Stop(u8::try_from(one.condition.id).map_err(|_| "an id over 255")?)
         } else {
-            Verdict::Pass([self.plain[at], self.plain[at + 1]])
+            Verdict::Pass(self.plain_under(one))
         };
         if let Verdict::Stop(_) = verdict {
             self.stop(pid);
@@ -152,6 +154,12 @@ impl Book {
 
     fn planted_at(&self, site: u32) -> Option<&Planted> {
         self.planted.iter().find(|one| one.site == site)
+    }
+
+    /// The plain bytes under a breakpoint's trap.
+    fn plain_under(&self, one: &Planted) -> [u8; 2] {
+        let at = self.at(one);
+        [self.plain[at], self.plain[at + 1]]
     }
 
     fn stop(&mut self, pid: u32) {
@@ -191,16 +199,22 @@ impl Book {
         Ok(())
     }
 
-    /// Where the process was Stopped, a breakpoint at the pc of its register block goes.
-    fn start(&mut self, pid: u32, registers: &[u8]) -> Claim {
+    /// Where the process was Stopped with the pc of its register block at a breakpoint, the answer
+    /// has the plain bytes there, and else none.
+    fn start(&mut self, pid: u32, registers: &[u8], plain: Option<[u8; 2]>) -> Claim {
         let index = self.pids.iter().position(|&one| one == pid);
         let index = index.ok_or("an unlisted process was started")?;
+        let mut expected = None;
         if let Some(place) = self.stopped.iter().position(|&one| one == pid) {
             self.stopped.swap_remove(place);
             let pc = word(&registers[BLOCK * index + PC..]);
-            self.planted.retain(|one| one.site != pc);
+            expected = self.planted_at(pc).map(|one| self.plain_under(one));
         }
-        Ok(())
+        if plain == expected {
+            Ok(())
+        } else {
+            Err("a start is not answered by the plain memory at its saved pc")
+        }
     }
 
     fn operation(&mut self, letter: u8, val: u32) -> Claim {

@@ -1,4 +1,5 @@
-//! An independent reference of the debug stub that document 01 describes.
+//! An independent reference of the debug stub that document 01 describes, with request Two of 02: a
+//! breakpoint survives a continue.
 //!
 //! It is written from the papers alone and shares nothing with the product. The stub lives in a
 //! [`Stub`]; memory and the register area are lent to every step. A step is refused by a

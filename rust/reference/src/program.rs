@@ -5,8 +5,8 @@ use crate::list::List;
 use crate::record::{Refusal, Stub};
 use crate::{word, BLOCK, MESSAGE};
 
-/// What one step writes: its number, then at most ten bytes.
-pub type Output = List<u8, 11>;
+/// What one step writes: its number, then at most ten bytes of reply, 02 and two plain bytes.
+pub type Output = List<u8, 14>;
 
 /// The bytes that follow a kind, or `None` for a kind that is none.
 pub fn body_length(kind: u8) -> Option<usize> {
@@ -53,17 +53,17 @@ impl Session {
         let (pid, rest) = (word(body), body.get(4..).unwrap_or_default());
         let mut reply = [0; MESSAGE];
         match kind {
-            1 => {
-                stub.request(memory, registers, body, &mut reply)?;
-                Ok(written(0, &reply))
-            }
+            1 => Ok(match stub.request(memory, registers, body, &mut reply)? {
+                Some(plain) => written(0, &[&reply, &[2], &plain]),
+                None => written(0, &[&reply]),
+            }),
             2 => Ok(match stub.trap(memory, registers, pid, rest)? {
-                Verdict::Stop(id) => written(0, &[1, id]),
-                Verdict::Pass([first, second]) => written(0, &[2, first, second]),
+                Verdict::Stop(id) => written(0, &[&[1, id]]),
+                Verdict::Pass(plain) => written(0, &[&[2], &plain]),
             }),
             3 => {
                 let stopped = stub.schedule(memory, registers, pid, rest)?;
-                Ok(written(0, &[u8::from(stopped)]))
+                Ok(written(0, &[&[u8::from(stopped)]]))
             }
             4 => {
                 stub.state(memory, registers, pid, rest.first().copied().unwrap_or_default())?;
@@ -71,17 +71,17 @@ impl Session {
             }
             _ => {
                 stub.restart(memory, registers, &mut reply)?;
-                Ok(written(0, &reply))
+                Ok(written(0, &[&reply]))
             }
         }
     }
 }
 
-/// The number, then the answer's bytes.
-fn written(number: u8, answer: &[u8]) -> Output {
+/// The number, then the bytes of the answer's parts.
+fn written(number: u8, answer: &[&[u8]]) -> Output {
     let mut output = Output::new();
     output.push(number);
-    for &byte in answer {
+    for &byte in answer.iter().copied().flatten() {
         output.push(byte);
     }
     output

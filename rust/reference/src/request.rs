@@ -17,36 +17,44 @@ enum Place {
 
 impl Stub {
     /// Serves a request. Past numbers 2 and 3 it always writes ten reply bytes, which may be Rerr.
+    /// Where it let a process go on at a breakpoint, the answer has the two plain bytes besides.
     pub fn request(
         &mut self,
         memory: &mut [u8],
         registers: &mut [u8],
         request: &[u8],
         reply: &mut [u8],
-    ) -> Result<(), Refusal> {
+    ) -> Result<Option<[u8; 2]>, Refusal> {
         let request: &[u8; MESSAGE] = exact(request)?;
         exact::<MESSAGE>(reply)?;
         self.enter(memory, registers)?;
-        let answer = self.serve(memory, registers, request);
-        reply.copy_from_slice(&answer.unwrap_or_else(Message::Rerr).bytes());
-        Ok(())
+        let served = self.serve(memory, registers, request);
+        let (message, plain) = served.unwrap_or_else(|reason| (Message::Rerr(reason), None));
+        reply.copy_from_slice(&message.bytes());
+        Ok(plain)
     }
 
-    /// unk and unsup look at no other byte.
-    fn serve(&mut self, memory: &mut [u8], registers: &mut [u8], request: &[u8; 10]) -> Answer {
+    /// The reply, and the plain bytes beside it. unk and unsup look at no other byte.
+    fn serve(
+        &mut self,
+        memory: &mut [u8],
+        registers: &mut [u8],
+        request: &[u8; MESSAGE],
+    ) -> Result<(Message, Option<[u8; 2]>), Reason> {
         let data = &request[1..];
-        match request[0] {
-            2 => self.tmget(memory, registers, data),
-            4 => self.tmput(memory, registers, data),
-            6 => self.tproc(data),
-            8 => self.asked(data).map(|i| Message::Rstatus(self.processes[i].state)),
-            10 => self.asked(data).map(|_| Message::Rrnote),
-            12 => self.tstop(data),
-            14 => self.tstart(memory, registers, data),
-            16 => self.tcondbreak(memory, data),
-            18 | 22 => Err(Reason::Unsup),
-            _ => Err(Reason::Unk),
-        }
+        let reply = match request[0] {
+            2 => self.tmget(memory, registers, data)?,
+            4 => self.tmput(memory, registers, data)?,
+            6 => self.tproc(data)?,
+            8 => Message::Rstatus(self.processes[self.asked(data)?].state),
+            10 => self.asked(data).map(|_| Message::Rrnote)?,
+            12 => self.tstop(data)?,
+            14 => return Ok((Message::Rstart, self.tstart(registers, data)?)),
+            16 => self.tcondbreak(memory, data)?,
+            18 | 22 => return Err(Reason::Unsup),
+            _ => return Err(Reason::Unk),
+        };
+        Ok((reply, None))
     }
 
     /// Tmget addr[4] n[1]: n plain bytes, then zeros.
@@ -130,21 +138,18 @@ impl Stub {
         Ok(Message::Rstop)
     }
 
-    /// Tstart clears the mark; a Stopped process becomes Ready and loses a breakpoint at its pc.
-    fn tstart(&mut self, memory: &mut [u8], registers: &[u8], data: &[u8]) -> Answer {
+    /// Tstart clears the mark; a Stopped process becomes Ready. Gives the plain bytes of the
+    /// breakpoint at its saved pc, which stays.
+    fn tstart(&mut self, registers: &[u8], data: &[u8]) -> Result<Option<[u8; 2]>, Reason> {
         let index = self.asked(data)?;
         let process = &mut self.processes[index];
         process.wanted = false;
-        if process.state == STOPPED {
-            process.state = READY;
-            let pc = word(&registers[BLOCK * index + PC..]);
-            let here = |entry: &Breakpoint| entry.site == pc;
-            let found = self.table.iter().position(|slot| slot.as_ref().is_some_and(here));
-            if let Some(entry) = found {
-                self.remove(memory, entry);
-            }
+        if process.state != STOPPED {
+            return Ok(None);
         }
-        Ok(Message::Rstart)
+        process.state = READY;
+        let pc = word(&registers[BLOCK * index + PC..]);
+        Ok(self.at_site(pc).map(|entry| entry.plain))
     }
 
     /// Tcondbreak val[4] op[4]: Rerr drops the condition in hand, unless op is d and three zeros.

@@ -4,7 +4,7 @@
 mod common;
 
 use common::*;
-use reference::{Book, Evaluation, Session, Verdict};
+use reference::{Book, Evaluation, Reason, Session, Verdict};
 
 fn worked_book() -> Book {
     let s = Session::worked();
@@ -15,7 +15,7 @@ fn worked_book() -> Book {
 fn book_of_one() -> Book {
     let mut book = worked_book();
     for (letter, val) in [(b'n', 4), (b'k', 7), (b'a', 0), (b'b', 4_104)] {
-        assert_eq!(book.request(&cond(letter, val), &[], &reply(17, &[])), Ok(()));
+        assert_eq!(book.request(&cond(letter, val), &[], &reply(17, &[]), None), Ok(()));
     }
     book
 }
@@ -23,7 +23,7 @@ fn book_of_one() -> Book {
 #[test]
 fn the_book_refuses_wrong_answers() {
     let book = book_of_one();
-    let ask = |request, answer| book.clone().request(&request, &[], &answer);
+    let ask = |request, answer| book.clone().request(&request, &[], &answer, None);
     assert_eq!(ask(mget(4_104, 2), reply(3, &[8, 9])), Ok(()));
     assert_eq!(ask(mget(4_104, 2), reply(3, &[2, 0x90])), Err("a read is not of plain memory"));
     assert_eq!(ask(mget(4_104, 1), reply(3, &[8, 9])), Err("a read answers more than n bytes"));
@@ -43,6 +43,41 @@ fn the_book_refuses_wrong_answers() {
     assert_eq!(trap(5, 4_104, Verdict::Pass([2, 0x90])), wrong);
     assert_eq!(trap(5, 4_104, Verdict::Stop(4)), wrong);
     assert_eq!(trap(5, 4_106, Verdict::Stop(4)), Err("a trap where no breakpoint is"));
+}
+
+#[test]
+fn the_book_reads_what_a_start_answers() {
+    let mut book = book_of_one();
+    assert_eq!(book.trap(7, &block(0, 4_104), Verdict::Stop(4)), Ok(()));
+    let at = |pc: u32| [block(0, 4_104), block(0, pc)].concat();
+    let start = |book: &Book, pid, pc, plain| {
+        book.clone().request(&ten(14, pid, &[]), &at(pc), &reply(15, &[]), plain)
+    };
+    let wrong = Err("a start is not answered by the plain memory at its saved pc");
+    assert_eq!(start(&book, 7, 4_104, Some([8, 9])), Ok(()));
+    assert_eq!(start(&book, 7, 4_104, Some([2, 0x90])), wrong);
+    assert_eq!(start(&book, 7, 4_104, None), wrong);
+    assert_eq!(start(&book, 7, 4_106, None), Ok(()));
+    assert_eq!(start(&book, 7, 4_106, Some([10, 11])), wrong);
+    assert_eq!(start(&book, 5, 4_104, None), Ok(()), "5 is not Stopped");
+    assert_eq!(start(&book, 5, 4_104, Some([8, 9])), wrong);
+    assert_eq!(start(&book, 6, 4_104, None), Err("an unlisted process was started"));
+
+    let written = mput(4_105, &[0xa1]);
+    assert_eq!(book.request(&written, &[], &reply(5, &[]), None), Ok(()));
+    assert_eq!(start(&book, 7, 4_104, Some([8, 9])), wrong);
+    let kept = book.planted().to_vec();
+    let done = book.request(&ten(14, 7, &[]), &at(4_104), &reply(15, &[]), Some([8, 0xa1]));
+    assert_eq!((done, book.planted(), book.stopped()), (Ok(()), &kept[..], &[][..]));
+
+    let beside = Err("plain bytes beside a reply that is not Rstart");
+    for (request, answer) in [
+        (mget(4_104, 2), reply(3, &[8, 0xa1])),
+        (ten(14, 6, &[]), rerr(Reason::Pid)),
+        (ten(12, 7, &[]), reply(13, &[])),
+    ] {
+        assert_eq!(book.clone().request(&request, &[], &answer, Some([8, 0xa1])), beside);
+    }
 }
 
 #[test]
@@ -70,7 +105,7 @@ fn the_book_lays_its_traps_over_plain_memory() {
 fn the_book_evaluates_up_to_the_first_read_outside() {
     let mut book = worked_book();
     for (letter, val) in [(b'n', 1), (b'*', 0), (b'p', 0), (b'a', 0), (b'b', 4_096)] {
-        assert_eq!(book.request(&cond(letter, val), &[], &reply(17, &[])), Ok(()));
+        assert_eq!(book.request(&cond(letter, val), &[], &reply(17, &[]), None), Ok(()));
     }
     let first = Evaluation { holds: true, outside: true, elements: &[(b'*', 0)] };
     assert_eq!(book.evaluated(5, 4_096), Some(first));

@@ -320,7 +320,7 @@ fn stop_and_start() {
     assert_eq!(ask(&mut s, ten(12, 5, &[])), reply(13, &[]));
     assert_eq!(state(&mut s, 5, 4), Ok(()));
     assert!(s.stub.processes[0].wanted, "a state event keeps the mark");
-    assert_eq!(ask(&mut s, ten(14, 5, &[])), reply(15, &[]));
+    assert_eq!(start(&mut s, 5), None);
     assert_eq!((s.stub.processes[0].wanted, s.stub.processes[0].state), (false, 4));
     ask(&mut s, ten(12, 5, &[]));
     assert_eq!(schedule(&mut s, 5, 4_104), Ok(true));
@@ -328,9 +328,19 @@ fn stop_and_start() {
     let before = s.clone();
     assert_eq!(ask(&mut s, ten(12, 5, &[])), reply(13, &[]), "Stopped: unchanged");
     assert_eq!(s, before);
-    assert_eq!(ask(&mut s, ten(14, 5, &[])), reply(15, &[]));
+    assert_eq!(start(&mut s, 5), Some([8, 9]), "where a schedule event stopped it");
     assert_eq!(s.stub.processes[0].state, READY);
-    assert_eq!((s.stub.table[0], &s.memory[8..10]), (None, &[8, 9][..]));
+}
+
+#[test]
+fn start_changes_nothing_but_the_process() {
+    let mut s = stopped();
+    ask(&mut s, cond(b'n', 9));
+    let mut wanted = s.clone();
+    wanted.stub.processes[0].state = READY;
+    assert_eq!(start(&mut s, 5), Some([8, 9]));
+    assert_eq!(s, wanted);
+    assert_eq!(s.memory[8..10], [0x02, 0x90]);
 }
 
 #[test]
@@ -339,14 +349,31 @@ fn start_goes_by_the_pc_as_it_stands() {
     plant(&mut s, 2, &[], 4_110);
     trap(&mut s, 7, 4_110).unwrap();
     ask(&mut s, mput(132, &[0, 0, 0x10, 0x0e]));
-    ask(&mut s, ten(14, 5, &[]));
-    assert!(s.stub.at_site(4_104).is_some() && s.stub.at_site(4_110).is_none());
+    assert_eq!(start(&mut s, 5), Some([14, 15]), "the pc that was written");
     assert_eq!(s.stub.processes[1].state, STOPPED, "the other one stays Stopped");
-    ask(&mut s, ten(14, 7, &[]));
-    assert_eq!(s.stub.processes[1].state, READY);
-    // A process that is not Stopped loses no breakpoint.
-    ask(&mut s, ten(14, 5, &[]));
-    assert!(s.stub.at_site(4_104).is_some());
+    s.registers[268..].copy_from_slice(&4_104_u32.to_be_bytes());
+    assert_eq!(start(&mut s, 7), Some([8, 9]), "the area that is lent");
+    assert_eq!(start(&mut s, 7), None, "not Stopped any more");
+    for pc in [0_u32, 4_102, 4_103, 4_105, 4_106, 4_104 << 8] {
+        s.stub.processes[0].state = STOPPED;
+        s.registers[132..136].copy_from_slice(&pc.to_be_bytes());
+        assert_eq!(start(&mut s, 5), None, "beside the site, at {pc}");
+    }
+}
+
+#[test]
+fn a_breakpoint_stops_again_until_it_is_removed() {
+    let mut s = stopped();
+    for _ in 0..3 {
+        assert_eq!(start(&mut s, 5), Some([8, 9]));
+        assert_eq!(trap(&mut s, 5, 4_104), Ok(Verdict::Stop(1)));
+    }
+    ask(&mut s, mput(4_105, &[0xa1]));
+    assert_eq!(start(&mut s, 5), Some([8, 0xa1]), "plain memory as it was written");
+    assert_eq!(trap(&mut s, 5, 4_104), Ok(Verdict::Stop(1)));
+    ask(&mut s, cond(b'd', 1));
+    assert_eq!(start(&mut s, 5), None);
+    assert_eq!(trap(&mut s, 5, 4_104), Err(Refusal::NoSite));
 }
 
 #[test]

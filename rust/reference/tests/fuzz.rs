@@ -91,7 +91,7 @@ fn any_step(rng: &mut Rng, s: &mut Session, wild: bool) -> Result<(), Refusal> {
         1 => stub.schedule(memory, registers, pid, &saved).map(|_| ()),
         2 => stub.state(memory, registers, pid, bytes.first().copied().unwrap_or(8)),
         3 => stub.restart(memory, registers, &mut answer),
-        _ => stub.request(memory, registers, &bytes, &mut answer),
+        _ => stub.request(memory, registers, &bytes, &mut answer).map(|_| ()),
     }
 }
 

@@ -84,7 +84,7 @@ fn numbers(s: &Session) -> [u8; 5] {
     let Session { stub, memory, registers } = &mut now;
     let mut answer = [0xee; 10];
     let done = [
-        stub.request(memory, registers, &mget(0x1004, 4), &mut answer),
+        stub.request(memory, registers, &mget(0x1004, 4), &mut answer).map(|_| ()),
         stub.trap(memory, registers, 5, &block(0, 4_104)).map(|_| ()),
         stub.schedule(memory, registers, 5, &block(0, 4_104)).map(|_| ()),
         stub.state(memory, registers, 5, 3),
@@ -121,7 +121,7 @@ fn requests_replies_and_blocks_have_one_size() {
         let size = Err(Refusal::Size);
         assert_eq!(stub.request(memory, registers, &other, &mut [0; 10]), size);
         assert_eq!(stub.request(memory, registers, &mget(B, 1), &mut other), size);
-        assert_eq!(stub.restart(memory, registers, &mut other), size);
+        assert_eq!(stub.restart(memory, registers, &mut other), Err(Refusal::Size));
         assert_eq!(stub.trap(memory, registers, 99, &other), Err(Refusal::Size));
         assert_eq!(stub.schedule(memory, registers, 99, &other), Err(Refusal::Size));
         assert_eq!(other, vec![0xee; length]);

@@ -104,6 +104,18 @@ fn case_11_refuses() {
     assert_eq!(ask(&mut s, mget(0, 1)), rerr(Reason::Notstop));
 }
 
+/// Not in the worked set: request Two of 02.
+#[test]
+fn the_program_writes_the_plain_bytes_after_rstart() {
+    let mut s = Session::worked();
+    plant(&mut s, 4, &[], 4_104);
+    let event = [&7_u32.to_be_bytes()[..], &block(0, 4_104)].concat();
+    assert_eq!(s.step(2, &event)[..], [0, 1, 4]);
+    let start = ten(14, 7, &[]);
+    assert_eq!(s.step(1, &start)[..], [0, 15, 0, 0, 0, 0, 0, 0, 0, 0, 0, 2, 8, 9]);
+    assert_eq!(s.step(1, &start)[..], [0, 15, 0, 0, 0, 0, 0, 0, 0, 0, 0]);
+}
+
 #[test]
 fn the_programs_example() {
     let mut s = Session::worked();

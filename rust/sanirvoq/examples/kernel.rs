@@ -2,12 +2,16 @@
 //! step by step. `examples/kernel.c` is the same in C and prints the same text, which is kept in
 //! `examples/kernel.txt`.
 
-use sanirvoq::{Refusal, Stub, Verdict, BLOCK, MESSAGE};
+use sanirvoq::{Refusal, Served, Stub, Verdict, BLOCK, MESSAGE};
 
 const BASE: u32 = 0x1000;
 const SIZE: u8 = 64;
 const PROCESSES: [(u32, u32); 2] = [(5, 0x8000_1000), (7, 0x8000_2000)];
 const SITE: u32 = 0x1008;
+/// Where pc is in a block.
+const PC: usize = BLOCK - 4;
+/// The bytes of a trap.
+const TRAP: u32 = 2;
 
 const TMGET: u8 = 2;
 const TMPUT: u8 = 4;
@@ -35,7 +39,27 @@ impl Kernel {
         let mut memory: Vec<u8> = (0..SIZE).collect();
         let mut registers = vec![0; PROCESSES.len() * BLOCK];
         let stub = Stub::setup(BASE, SIZE.into(), &PROCESSES, &mut memory, &mut registers)?;
+        for (block, (pid, _)) in registers.chunks_exact_mut(BLOCK).zip(PROCESSES) {
+            // A register has 0x100 times its number, plus the pid.
+            for (word, number) in block.chunks_exact_mut(4).zip(0..32).skip(1) {
+                word.copy_from_slice(&(0x100 * number + pid).to_be_bytes());
+            }
+        }
         Ok(Self { stub, memory, registers })
+    }
+
+    /// A process's block of the register area. This kernel keeps the registers there while the
+    /// process runs, too.
+    fn block_of(&mut self, pid: u32) -> &mut [u8] {
+        let start = if pid == PROCESSES[0].0 { 0 } else { BLOCK };
+        &mut self.registers[start..start + BLOCK]
+    }
+
+    /// What a process has in its registers when it comes to a pc.
+    fn come_to(&mut self, pid: u32, pc: u32) -> Vec<u8> {
+        let mut block = self.block_of(pid).to_vec();
+        block[PC..].copy_from_slice(&pc.to_be_bytes());
+        block
     }
 
     /// The eight bytes of memory from the site on.
@@ -50,7 +74,7 @@ impl Kernel {
 
     /// A process comes to a pc where memory holds a trap.
     fn run_into_trap(&mut self, pid: u32, pc: u32) {
-        let block = block(pid, pc);
+        let block = self.come_to(pid, pc);
         let text = match self.stub.trap(&mut self.memory, &mut self.registers, pid, &block) {
             Ok(Verdict::Stop(id)) => format!("Stop by breakpoint {id}"),
             Ok(Verdict::Pass(plain)) => {
@@ -62,22 +86,27 @@ impl Kernel {
     }
 
     fn about_to_run(&mut self, pid: u32) -> Result<(), Refusal> {
-        let block = block(pid, BASE);
+        let block = self.come_to(pid, BASE);
         let stops = self.stub.schedule(&mut self.memory, &mut self.registers, pid, &block)?;
         line(&format!("schedule of {pid}"), if stops { "yes: it stops" } else { "no: it runs" });
         Ok(())
     }
+
+    /// A process goes on at a breakpoint, where memory holds the trap: the kernel runs the bytes
+    /// under it elsewhere, with the registers of the process's block, and lets the process go on
+    /// behind them.
+    fn go_on(&mut self, pid: u32, plain: [u8; 2]) {
+        let pc = &mut self.block_of(pid)[PC..];
+        let behind = word(pc) + TRAP;
+        pc.copy_from_slice(&behind.to_be_bytes());
+        let text = format!("the kernel runs {} elsewhere, then on from {behind:#x}", hex(&plain));
+        line(&format!("process {pid} goes on"), &text);
+    }
 }
 
-/// What a process has in its registers when it comes to a pc: 0x100 times the register's number,
-/// plus the pid.
-fn block(pid: u32, pc: u32) -> [u8; BLOCK] {
-    let mut block = [0; BLOCK];
-    for (word, number) in block.chunks_exact_mut(4).zip(0..32).skip(1) {
-        word.copy_from_slice(&(0x100 * number + pid).to_be_bytes());
-    }
-    block[BLOCK - 4..].copy_from_slice(&pc.to_be_bytes());
-    block
+/// Four bytes, high-order first.
+fn word(bytes: &[u8]) -> u32 {
+    bytes.iter().fold(0, |sum, &byte| sum << 8 | u32::from(byte))
 }
 
 fn hex(bytes: &[u8]) -> String {
@@ -102,12 +131,17 @@ impl Kernel {
         request[0] = kind;
         request[1..5].copy_from_slice(&number.to_be_bytes());
         request[5..5 + rest.len()].copy_from_slice(rest);
-        self.stub.request(&mut self.memory, &mut self.registers, &request, &mut reply)?;
+        let served =
+            self.stub.request(&mut self.memory, &mut self.registers, &request, &mut reply)?;
         let words = match reply[0] {
             RERR | RPROC | RSTATUS => format!("  {}", text(&reply[1..])),
             _ => String::new(),
         };
         line(label, &format!("{} -> {}{words}", hex(&request), hex(&reply)));
+        match served {
+            Served::Reply => {}
+            Served::ReplyAndPass(plain) => self.go_on(number, plain),
+        }
         Ok(())
     }
 
@@ -135,9 +169,19 @@ impl Kernel {
         println!("Both processes come to 0x1008: 5 runs on over the new bytes, 7 stops.");
         self.run_into_trap(5, SITE);
         self.run_into_trap(7, SITE);
-        println!("She reads register 10 of process 7 and starts it, which removes breakpoint 4.");
+        println!("She changes register 10 of process 7 and starts it. Breakpoint 4 stands.");
         self.ask("Tproc 7", TPROC, 7, &[])?;
         self.ask("Tmget 0x28 n 4", TMGET, 0x28, &[4])?;
+        self.ask("Tmput 0x28 n 4 00 00 00 63", TMPUT, 0x28, &[4, 0, 0, 0, 0x63])?;
+        self.ask("Tstart 7", TSTART, 7, &[])?;
+        self.show_memory();
+        println!(
+            "Process 7 comes to 0x1008 again and stops again, with the register that she changed."
+        );
+        self.run_into_trap(7, SITE);
+        self.ask("Tmget 0x28 n 4", TMGET, 0x28, &[4])?;
+        println!("She removes breakpoint 4 and starts process 7, which now just goes on.");
+        self.ask("Tcondbreak d 4", TCONDBREAK, 4, b"d")?;
         self.ask("Tstart 7", TSTART, 7, &[])?;
         self.show_memory();
         Ok(())

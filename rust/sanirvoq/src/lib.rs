@@ -11,7 +11,7 @@
 //!
 //! ```
 //! # fn main() -> Result<(), sanirvoq::Refusal> {
-//! use sanirvoq::{Stub, BLOCK, MESSAGE};
+//! use sanirvoq::{Served, Stub, BLOCK, MESSAGE};
 //!
 //! let mut memory: Vec<u8> = (0..64).collect();
 //! let mut registers = vec![0; 2 * BLOCK];
@@ -20,8 +20,9 @@
 //!
 //! let request = [2, 0, 0, 0x10, 0x04, 4, 0, 0, 0, 0];
 //! let mut reply = [0; MESSAGE];
-//! stub.request(&mut memory, &mut registers, &request, &mut reply)?;
+//! let served = stub.request(&mut memory, &mut registers, &request, &mut reply)?;
 //! assert_eq!(reply, [3, 4, 5, 6, 7, 0, 0, 0, 0, 0]);
+//! assert_eq!(served, Served::Reply);
 //! # Ok(())
 //! # }
 //! ```
@@ -46,7 +47,7 @@ mod stub;
 
 pub use message::{read, write, Message, Reason};
 pub use refusal::Refusal;
-pub use stub::{Stub, Verdict};
+pub use stub::{Served, Stub, Verdict};
 
 /// The bytes of a message, of a request and of a reply.
 pub const MESSAGE: usize = 10;

@@ -13,6 +13,18 @@ pub enum Verdict {
     Pass([u8; 2]),
 }
 
+/// What a served request leaves to the kernel, beside sending the reply.
+#[derive(Debug, Clone, Copy, PartialEq, Eq)]
+#[must_use = "a process that goes on at a breakpoint needs its two bytes run elsewhere"]
+pub enum Served {
+    /// Nothing.
+    Reply,
+    /// A Tstart let its process go on at a breakpoint, which stands: these two bytes of the program
+    /// are to be run elsewhere, with the registers of the process's block, then the process goes on
+    /// behind them. Let go at the site itself it would only run into the trap again.
+    ReplyAndPass([u8; 2]),
+}
+
 /// The stub's record: the window's place, the processes, the breakpoints. It holds no memory and no
 /// registers; the kernel lends both to every step. A step that is refused changes nothing, but for
 /// a setup, which leaves the record empty.
@@ -56,17 +68,17 @@ impl Stub {
         answer(self.lent(memory, registers).call(Kind::Setup)).map(drop)
     }
 
-    /// Serves a request of ten bytes with ten reply bytes, which may be Rerr.
-    /// Refused with [`Refusal::Size`] or [`Refusal::Unfit`].
+    /// Serves a request of ten bytes with ten reply bytes, which may be Rerr, and says what else is
+    /// to be done. Refused with [`Refusal::Size`] or [`Refusal::Unfit`].
     pub fn request(
         &mut self,
         memory: &mut [u8],
         registers: &mut [u8],
         request: &[u8],
         reply: &mut [u8],
-    ) -> Result<(), Refusal> {
+    ) -> Result<Served, Refusal> {
         let lent = Lent { input: request, reply, ..self.lent(memory, registers) };
-        answer(lent.call(Kind::Request)).map(drop)
+        answer(lent.call(Kind::Request)).map(served)
     }
 
     /// A process ran into a trap, with these 136 bytes of registers. Refused with
@@ -143,6 +155,15 @@ fn answer(result: u32) -> Result<[u8; 3], Refusal> {
     Refusal::check(number).map(|()| answer)
 }
 
+/// The answer of an accepted request. It is proved to be one of these.
+fn served(answer: [u8; 3]) -> Served {
+    match answer {
+        [0, _, _] => Served::Reply,
+        [2, first, second] => Served::ReplyAndPass([first, second]),
+        other => unreachable!("the archive answered a request with {other:?}"),
+    }
+}
+
 /// The answer of an accepted trap. It is proved to be one of these.
 fn verdict(answer: [u8; 3]) -> Verdict {
     match answer {
@@ -160,6 +181,12 @@ mod tests {
     fn a_result_has_the_number_lowest() {
         assert_eq!(answer(0x0908_0200), Ok([2, 8, 9]));
         assert_eq!(answer(6), Err(Refusal::NoSite));
+    }
+
+    #[test]
+    fn a_request_answers_the_reply_alone_or_with_pass() {
+        assert_eq!(served([0, 0, 0]), Served::Reply);
+        assert_eq!(served([2, 8, 9]), Served::ReplyAndPass([8, 9]));
     }
 
     #[test]

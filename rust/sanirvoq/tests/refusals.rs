@@ -4,7 +4,7 @@ mod common;
 
 use common::*;
 use sanirvoq::ffi::{Element, Entry, Target};
-use sanirvoq::{Refusal, Stub};
+use sanirvoq::{Refusal, Served, Stub};
 
 /// A session with breakpoints 3 and 4, a condition in hand, a current and a Stopped process.
 fn used() -> Session {
@@ -23,7 +23,10 @@ type Step = fn(&mut Session, &mut [u8]) -> Result<(), Refusal>;
 /// What every step after setup answers. A refused one must change nothing; each has its own copy.
 fn every_step(session: &Session) -> [Result<(), Refusal>; 5] {
     let steps: [Step; 5] = [
-        |s, reply| s.stub.request(&mut s.memory, &mut s.registers, &mget(0x1004, 4), reply),
+        |s, reply| {
+            let done = s.stub.request(&mut s.memory, &mut s.registers, &mget(0x1004, 4), reply);
+            done.map(|served| assert_eq!(served, Served::Reply))
+        },
         |s, _| s.trap(5, 4_104).map(drop),
         |s, _| s.schedule(5, 4_104).map(drop),
         |s, _| s.state(5, 3),
@@ -74,7 +77,7 @@ fn requests_replies_and_blocks_have_one_size() {
         let size = Err(Refusal::Size);
         assert_eq!(stub.request(memory, registers, &other, &mut reply), size);
         assert_eq!(stub.request(memory, registers, &mget(B, 1), &mut other), size);
-        assert_eq!(stub.restart(memory, registers, &mut other), size);
+        assert_eq!(stub.restart(memory, registers, &mut other), Err(Refusal::Size));
         assert_eq!(stub.trap(memory, registers, 99, &other), Err(Refusal::Size));
         assert_eq!(stub.schedule(memory, registers, 99, &other), Err(Refusal::Size));
         assert_eq!((other, reply), (vec![0xee; length], [0xee; 10]));

@@ -3,7 +3,7 @@
 mod common;
 
 use common::*;
-use sanirvoq::Verdict;
+use sanirvoq::{Refusal, Served, Verdict};
 
 #[test]
 fn case_1_reads_four_bytes() {
@@ -120,4 +120,43 @@ fn a_marked_process_stops_when_it_is_to_run() {
     assert_eq!(s.ask(mget(132, 4)), ten(3, &[0, 0, 0x10, 4]));
     assert_eq!(s.ask(with(4, 4, &[4, 1, 2, 3, 4])), ten(5, &[]));
     assert_eq!(s.registers[4..8], [1, 2, 3, 4]);
+}
+
+/// Not in the worked set: a breakpoint stops until it is removed, and what lies under its trap comes
+/// with each continue.
+#[test]
+fn a_continue_at_a_breakpoint_carries_its_plain_bytes() {
+    let mut s = Session::worked();
+    s.plant(4, &[], 4_104);
+    assert_eq!(s.trap(7, 4_104), Ok(Verdict::Stop(4)));
+    s.ask(with(6, 7, &[]));
+    assert_eq!(s.ask(with(4, 40, &[4, 1, 2, 3, 4])), ten(5, &[]));
+    assert_eq!(s.start(7), Served::ReplyAndPass([8, 9]));
+    assert_eq!(s.memory[8..10], [0x02, 0x90], "the breakpoint stands");
+    assert_eq!(s.start(7), Served::Reply, "7 is not Stopped any more");
+    assert_eq!(s.trap(7, 4_104), Ok(Verdict::Stop(4)), "it stops again");
+    assert_eq!(s.ask(with(4, 4_105, &[1, 0xa1])), ten(5, &[]));
+    assert_eq!(s.start(7), Served::ReplyAndPass([8, 0xa1]), "with what was written");
+    assert_eq!(s.trap(7, 4_104), Ok(Verdict::Stop(4)));
+    assert_eq!(s.ask(cond(b'd', 4)), ten(17, &[]));
+    assert_eq!(s.start(7), Served::Reply, "no breakpoint is there");
+    assert_eq!(s.trap(7, 4_104), Err(Refusal::NoSite));
+}
+
+/// Not in the worked set: the saved pc is that of the register area as it is lent.
+#[test]
+fn a_continue_goes_by_the_saved_pc() {
+    let mut s = Session::worked();
+    s.plant(4, &[], 4_104);
+    s.ask(with(12, 5, &[]));
+    assert_eq!(s.schedule(5, 4_106), Ok(true));
+    assert_eq!(s.start(5), Served::Reply, "beside the site");
+    s.ask(with(12, 5, &[]));
+    assert_eq!(s.schedule(5, 4_104), Ok(true));
+    assert_eq!(s.start(5), Served::ReplyAndPass([8, 9]), "a schedule event stopped it");
+    s.ask(with(12, 5, &[]));
+    assert_eq!(s.schedule(5, 4_106), Ok(true));
+    s.ask(with(6, 5, &[]));
+    assert_eq!(s.ask(with(4, 135, &[1, 8])), ten(5, &[]));
+    assert_eq!(s.start(5), Served::ReplyAndPass([8, 9]), "Tmput wrote it");
 }

@@ -11,7 +11,7 @@ const PID_REQUESTS: [u8; 5] = [6, 8, 10, 12, 14];
 impl Burst<'_> {
     /// One thing that may happen in a session.
     pub fn act(&mut self) {
-        match self.rng.weighted(&[40, 10, 13, 1, 3, 4, 5, 12, 48, 11, 9, 20, 14, 1, 2]) {
+        match self.rng.weighted(&[40, 10, 13, 1, 3, 4, 16, 12, 48, 11, 9, 28, 4, 14, 1, 2]) {
             0 => self.memory(),
             1 => self.registers(),
             2 => self.condition(),
@@ -24,8 +24,9 @@ impl Burst<'_> {
             9 => self.schedule(),
             10 => self.state(),
             11 => self.release(),
-            12 => self.any_type(),
-            13 => self.restart(),
+            12 => self.stop_again(),
+            13 => self.any_type(),
+            14 => self.restart(),
             _ => self.noise(),
         }
     }
@@ -179,16 +180,46 @@ impl Burst<'_> {
         self.steps.push(Step::State { pid, value });
     }
 
-    /// Lets a Stopped process go, now and then from a pc that was written before.
+    /// Lets a Stopped process go on, now and then from a pc that was written before; or one that is
+    /// not Stopped.
     pub fn release(&mut self) {
-        let stopped = self.pid_where(true);
-        let pid = stopped.unwrap_or_else(|| self.pid(0));
+        let (stopped, any) = (self.pid_where(true), self.pid(0));
+        let pid = if self.rng.chance(90) { stopped.unwrap_or(any) } else { any };
         if self.rng.chance(25) {
-            let [a, b, c, d] = self.standing_site().to_be_bytes();
-            self.ask(ten(6, pid, &[]));
-            self.ask(ten(4, PC as u32, &[4, a, b, c, d]));
+            self.write_pc(pid);
         }
         self.ask(ten(14, pid, &[]));
+    }
+
+    /// Writes the saved pc of a process, or its last bytes: to a site, beside one or elsewhere.
+    fn write_pc(&mut self, pid: u32) {
+        let (site, any) = (self.standing_site(), self.address());
+        let beside = site.wrapping_add(self.rng.below(5)).wrapping_sub(2);
+        let pc = self.rng.pick(&[site, site, beside, any]).to_be_bytes();
+        let from = self.rng.pick(&[0, 0, 2, 3]);
+        let rest = [&[(pc.len() - from) as u8], &pc[from..]].concat();
+        self.ask(ten(6, pid, &[]));
+        self.ask(ten(4, (PC + from) as u32, &rest));
+    }
+
+    /// A stop at a breakpoint, now and then another register or other bytes under the trap, a
+    /// continue, and the same trap again.
+    fn stop_again(&mut self) {
+        let (Some(pid), Some(point)) = (self.pid_where(false), self.point()) else {
+            return self.condition();
+        };
+        let block = block(self.rng, point.site);
+        self.steps.push(Step::Trap { pid, block });
+        if self.rng.chance(50) {
+            let register = 4 + self.rng.below(128);
+            self.ask(ten(6, pid, &[]));
+            self.put(register);
+        }
+        if self.rng.chance(30) {
+            self.put(point.site);
+        }
+        self.ask(ten(14, pid, &[]));
+        self.steps.push(Step::Trap { pid, block });
     }
 
     /// A restart with a condition in hand, a mark and a current process now and then, and looks at

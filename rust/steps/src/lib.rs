@@ -5,7 +5,8 @@
 //! - [`step`]: one step, and its bytes in the program's format
 //! - [`burst`]: a few steps that belong together; what they are aimed at, their conditions and what
 //!   they do are in modules of their own
-//! - [`tally`]: counts what was reached; [`table`] prints it and says what is lacking
+//! - [`tally`]: counts what was reached, [`continues`] what a Tstart found; [`table`] prints it and
+//!   says what is lacking
 //! - [`program`]: random steps over the worked setup
 
 #![forbid(unsafe_code)]
@@ -14,6 +15,7 @@ mod acts;
 mod aim;
 pub mod burst;
 mod conditions;
+pub mod continues;
 pub mod program;
 pub mod rng;
 pub mod step;

@@ -12,7 +12,7 @@ const NUMBERS: [&[usize]; 6] = [&[], &[0], &[0, 4, 5, 6], &[0, 4], &[0, 4, 5], &
 
 /// Writes random steps; never a kind other than 1 to 5, never a cut step. Gives what they came to
 /// in a session of the independent stub.
-pub fn write(seed: u64, count: u64, mut output: impl Write) -> io::Result<[Section; 4]> {
+pub fn write(seed: u64, count: u64, mut output: impl Write) -> io::Result<[Section; 5]> {
     let mut generator = Generator::new(seed);
     let mut session = Session::worked();
     let mut tally = Tally::default();
@@ -39,6 +39,7 @@ fn run(step: &Step, session: &mut Session, tally: &mut Tally) -> Vec<u8> {
     tally.number(usize::from(kind), output[0], Some(&session.stub));
     if let [0, answer @ ..] = &output[..] {
         tally.answer(step, answer, &session.stub);
+        tally.continues.take(step, answer, &session.stub, &session.registers);
     }
     [&[kind][..], &body].concat()
 }

@@ -1,10 +1,11 @@
 //! What steps came to: their numbers, replies, reasons and answers, the letters of conditions, and
 //! the bounds and sites that reads and writes met.
 
+use crate::continues::Continues;
 use crate::step::Step;
 use crate::table::{must, texts, Cell, Section};
 use crate::LETTERS;
-use reference::{Reason, Stub};
+use reference::{Reason, Stub, MESSAGE};
 
 const KINDS: [&str; 6] = ["setup", "request", "trap", "schedule", "state", "restart"];
 
@@ -32,6 +33,8 @@ pub struct Tally {
     resets: u64,
     /// Stop, Pass, yes, no.
     answers: [u64; 4],
+    /// Rstart with the plain bytes, and alone.
+    started: [u64; 2],
     accepted: [u64; 11],
     refused: [u64; 11],
     /// Those refused with count: a full table, or a 17th element.
@@ -42,6 +45,8 @@ pub struct Tally {
     /// Stretches over the end of the registers, the window's beginning and end, and 2^32.
     bounds: [u64; 4],
     standing: [u64; 9],
+    /// Fed apart, in sessions only.
+    pub continues: Continues,
 }
 
 impl Default for Tally {
@@ -51,6 +56,7 @@ impl Default for Tally {
             types: vec![[0; 9]; 256],
             resets: 0,
             answers: [0; 4],
+            started: [0; 2],
             accepted: [0; 11],
             refused: [0; 11],
             full: [0; 11],
@@ -58,6 +64,7 @@ impl Default for Tally {
             crossed: [0; 4],
             bounds: [0; 4],
             standing: [0; 9],
+            continues: Continues::default(),
         }
     }
 }
@@ -86,10 +93,16 @@ impl Tally {
         }
     }
 
-    /// Counts a step of number 0 by its answer: ten bytes of reply, or those of an event.
+    /// Counts a step of number 0 by its answer, as the program writes it.
     pub fn answer(&mut self, step: &Step, answer: &[u8], stub: &Stub) {
         match (step, answer) {
-            (Step::Request(request), _) => self.request(request, answer, stub),
+            (Step::Request(request), _) => {
+                let (reply, plain) = answer.split_at(MESSAGE);
+                self.request(request, reply, stub);
+                if reply[0] == 15 {
+                    self.started[usize::from(plain.is_empty())] += 1;
+                }
+            }
             (Step::Trap { .. }, [stop_or_pass, ..]) => {
                 self.answers[usize::from(*stop_or_pass) - 1] += 1;
             }
@@ -142,9 +155,10 @@ impl Tally {
 
     // ---- As a table. ----
 
-    /// The four sections, with the numbers that each kind can have; a kind with none has no row.
-    pub fn sections(&self, possible: &[&[usize]; 6]) -> [Section; 4] {
-        [self.by_number(possible), self.by_type(), self.by_answer(), self.by_letter()]
+    /// The five sections, with the numbers that each kind can have; a kind with none has no row.
+    pub fn sections(&self, possible: &[&[usize]; 6]) -> [Section; 5] {
+        let (by_number, by_answer) = (self.by_number(possible), self.by_answer());
+        [by_number, self.by_type(), by_answer, self.continues.section(), self.by_letter()]
     }
 
     fn by_number(&self, possible: &[&[usize]; 6]) -> Section {
@@ -188,7 +202,10 @@ impl Tally {
         let title = "answers, writes, breakpoints";
         let mut section = Section { title, columns: Vec::new(), rows: Vec::new() };
         section.row("trap: Stop, Pass", must(&self.answers[..2]));
+        let second_stops = self.continues.second_stops;
+        section.row("trap: a second Stop at the same breakpoint", must(&[second_stops]));
         section.row("schedule: yes, no", must(&self.answers[2..]));
+        section.row("Tstart: with the plain bytes, reply alone", must(&self.started));
         section.row("writes that cross 0 to 3 sites", must(&self.crossed));
         section.row("steps with 0 to 8 breakpoints", must(&self.standing));
         section.row("stretches over 136, B, B + M, 2^32", must(&self.bounds));

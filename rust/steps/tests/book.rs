@@ -1,6 +1,6 @@
 //! The book of demand 3, kept beside the independent stub over random steps.
 
-use reference::{body_length, fit, Book, Claim, Element, Session, Stub, Verdict, BLOCK};
+use reference::{body_length, fit, Book, Claim, Element, Session, Stub, Verdict, BLOCK, MESSAGE};
 use steps::program;
 
 /// Feeds a step that got number 0; `registers` are those lent to it.
@@ -8,7 +8,15 @@ fn feed(book: &mut Book, kind: u8, body: &[u8], answer: &[u8], registers: &[u8])
     let pid = if body.len() < 4 { 0 } else { u32::from_be_bytes(body[..4].try_into().unwrap()) };
     let block = || <&[u8; BLOCK]>::try_from(&body[4..]).unwrap();
     match (kind, answer) {
-        (1, _) => book.request(body.try_into().unwrap(), registers, answer.try_into().unwrap())?,
+        (1, _) => {
+            let (reply, beside) = answer.split_first_chunk::<MESSAGE>().ok_or("a short reply")?;
+            let plain = match *beside {
+                [] => None,
+                [2, a, b] => Some([a, b]),
+                _ => return Err("an answer of another form"),
+            };
+            book.request(body.try_into().unwrap(), registers, reply, plain)?;
+        }
         (2, &[1, id]) => book.trap(pid, block(), Verdict::Stop(id))?,
         (2, &[2, a, b]) => book.trap(pid, block(), Verdict::Pass([a, b]))?,
         (3, &[yes]) => book.schedule(pid, yes == 1),

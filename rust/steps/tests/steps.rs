@@ -57,6 +57,23 @@ fn the_table_has_every_number_that_the_program_can_show() {
     assert!(!text.contains("setup"));
 }
 
+/// The plain bytes come with each Tstart of a Stopped process whose saved pc is at a site, and with
+/// no other.
+#[test]
+fn the_table_has_what_each_tstart_found() {
+    let text = table(&program::write(1, 20_000, Vec::new()).unwrap());
+    let first = |name: &str| -> u64 {
+        let line = text.lines().find_map(|line| line.trim_start().strip_prefix(name)).unwrap();
+        line.split_whitespace().next().unwrap().parse().unwrap()
+    };
+    let (by_trap, by_schedule) = (first("stopped by a trap"), first("stopped by a schedule event"));
+    let written = first("Stopped, the pc written by Tmput");
+    assert!(by_trap > 0 && by_schedule > 0 && written > 0 && first("not Stopped") > 0);
+    let answered = first("Tstart: with the plain bytes, reply alone");
+    assert_eq!(answered, by_trap + by_schedule + written);
+    assert!(first("trap: a second Stop at the same breakpoint") > 0);
+}
+
 /// The letters of a burst's Tcondbreaks with their values.
 fn operations(steps: &[Step]) -> Vec<(u8, u32)> {
     let operation = |step: &Step| match step {

@@ -64,12 +64,6 @@ enum-told-10 c = search needs
 of-requires-10 : tie.Need-of-requires-10
 of-requires-10 c κs = search needs
 
-enum-told-11 : tie.Need-enum-told-11
-enum-told-11 c = search needs
-
-of-requires-11 : tie.Need-of-requires-11
-of-requires-11 c κs = search needs
-
 returns : tie.Need-returns
 unfolding touchedOf
 returns c = rw (c .before .enum-told .given .1) (c .of .ensures)
@@ -110,10 +104,6 @@ returns-10 : tie.Need-returns-10
 unfolding touchedOf
 returns-10 c = rw (c .before .enum-told10 .given .1) (c .of10 .ensures)
 
-returns-11 : tie.Need-returns-11
-unfolding touchedOf
-returns-11 c = rw (c .before .enum-told11 .given .1) (c .of11 .ensures)
-
 pub touched-by-spec : {M : Type 1} → statement M
 touched-by-spec =
     tie.close
@@ -138,8 +128,6 @@ touched-by-spec =
     of-requires-9
     enum-told-10
     of-requires-10
-    enum-told-11
-    of-requires-11
     returns
     returns-2
     returns-3
@@ -149,5 +137,4 @@ touched-by-spec =
     returns-7
     returns-8
     returns-9
-    returns-10
-    returns-11)
+    returns-10)

@@ -11,13 +11,14 @@ use Rattle.rules.specs.Event.{trap}
 use Rattle.rules.proofs.Facts.{Good}
 use Rattle.rules.specs.Record.{pcOf}
 use Rattle.rules.specs.declared.Answer.the-variants.{Stop}
+use Rattle.rules.specs.Breakpoint.{passOf}
 use Rattle.event.proofs.Laws.{refuses, answers, stops, elements-few, unlisted, trap-stopped, trap-none}
 use Rattle.event.proofs.Laws.{trap-stop, trap-pass}
 use Rattle.event.proofs.trap.Statement.{statement}
 use Rattle.event.proofs.trap.Tie as tie
 
 good : (s : tie.Start) → Good house (s .args .t) (now (s .args .mem))
-good s = ready-good _ _ _ _ _ (s .good .0) (s .pre .0)
+good s = ready-good _ _ _ _ (s .good .0) (s .pre .0 .0)
 
 -- where the process was looked for, and where the code starts, from where it is found
 abbrev search-of : tie.After-found → tie.After-find
@@ -34,7 +35,7 @@ abbrev found-at : tie.After-breakpoint-at → tie.After-found
 found-at b = found-of (b .before .before)
 
 find-requires : tie.Need-find-requires
-find-requires c κs = let s = c .before .before .before in fit-few house (s .args .t) _ (s .pre .0 .fit)
+find-requires c κs = let s = c .before .before .before in fit-few house (s .args .t) _ (s .pre .0 .0 .fit)
 
 enum-known-found : tie.Need-enum-known-found
 enum-known-found c = search needs
@@ -66,7 +67,7 @@ word-at-requires c κs = let s = begin (found-of c) in omega (arith, s .pre .1)
 breakpoint-at-requires : tie.Need-breakpoint-at-requires
 breakpoint-at-requires c κs =
     let s = begin (found-of (c .before)) in
-    ready-findable (s .args .t) _ _ _ _ (s .good .0) (s .pre .0)
+    ready-findable (s .args .t) _ _ _ (s .good .0) (s .pre .0 .0)
 
 keeping-requires-3 : tie.Need-keeping-requires-3
 keeping-requires-3 c κs = search needs
@@ -100,7 +101,7 @@ stop-requires c κs =
     let k = found-at (y .before) in
     let s = begin k in
     let l = found-listed (s .args .t) (s .args .pid) _ _ _ (search-of k .find .ensures) (k .found .given .1) in
-    (omega (arith, l .1, s .pre .0 .registers), s .pre .1)
+    (omega (arith, l .1, s .pre .0 .1), s .pre .1)
 
 same-length : tie.Need-same-length
 same-length c = search needs
@@ -117,7 +118,7 @@ returns-4 c =
     stops _ (Stop _) _ _ _ _ (s .stop .ensures)
     ∙ trap-stop _ _ _ (search-of k .find .ensures) _ _ (k .found .given .1) _ (b .before .before .if1 .left)
     (good (begin k) .shaped .entries) _ _ (b .before .word-at .ensures) (b .breakpoint-at .ensures) (y .if2 .left) _
-    (begin k .pre .0) _ (v .evaluate .ensures) (n .if3 .taken)
+    (begin k .pre .0 .0) _ (v .evaluate .ensures) (n .if3 .taken)
 
 element-copy-out-t35 : tie.Need-element-copy-out-t35
 element-copy-out-t35 c = search needs
@@ -129,7 +130,7 @@ keeping-requires-4 : tie.Need-keeping-requires-4
 keeping-requires-4 c κs = search needs
 
 returns-5 : tie.Need-returns-5
-unfolding pcOf
+unfolding pcOf passOf
 returns-5 c =
     let n = c .before .before .before in
     let v = n .before in
@@ -139,7 +140,7 @@ returns-5 c =
     answers _ _ _ (c .keeping4 .ensures)
     ∙ trap-pass _ _ _ (search-of k .find .ensures) _ _ (k .found .given .1) _ (b .before .before .if1 .left)
     (good (begin k) .shaped .entries) _ _ (b .before .word-at .ensures) (b .breakpoint-at .ensures) (y .if2 .left) _
-    (begin k .pre .0) _ (v .evaluate .ensures) (n .if3 .left)
+    (begin k .pre .0 .0) _ (v .evaluate .ensures) (n .if3 .left)
 
 pub trap-spec : {M : Type 1} → statement M
 trap-spec =

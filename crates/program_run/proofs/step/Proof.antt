@@ -1,6 +1,7 @@
 -- `program_run::step` meets its contract: each kind calls its step, an event with the pid and what follows it. Assumes
 -- nothing.
 use mathlib.Core.Path.{_∙_}
+use mathlib.Core.List.{[]}
 use Prim.Native.Nat.{_≤_}
 use native.Mathlib.Omega.{arith}
 use denote.Ref.{now}
@@ -9,7 +10,7 @@ use lib.ListN.{length}
 use Rattle.step.specs.declared.StepKind.the-variants.{Trap, Schedule, State}
 use Rattle.program_run.specs.Encoding.{bodyOf}
 use Rattle.program_run.proofs.Steps.{length-known, is-request, is-trap, is-schedule, is-state, is-restart}
-use Rattle.program_run.proofs.Steps.{steps-answer}
+use Rattle.program_run.proofs.Steps.{steps-shown}
 use Rattle.program_run.proofs.step.Statement.{statement}
 use Rattle.program_run.proofs.step.Tie as tie
 
@@ -59,8 +60,8 @@ part-trap-end c = search needs
 trap-requires : tie.Need-trap-requires
 trap-requires c κs = search needs
 
-answered-requires : tie.Need-answered-requires
-answered-requires c κs = search needs
+event-requires : tie.Need-event-requires
+event-requires c κs = search needs
 
 enum-told-3 : tie.Need-enum-told-3
 enum-told-3 c = search needs
@@ -80,8 +81,8 @@ part-schedule-end c = search needs
 schedule-requires : tie.Need-schedule-requires
 schedule-requires c κs = search needs
 
-answered-requires-2 : tie.Need-answered-requires-2
-answered-requires-2 c κs = search needs
+event-requires-2 : tie.Need-event-requires-2
+event-requires-2 c κs = search needs
 
 enum-told-4 : tie.Need-enum-told-4
 enum-told-4 c = search needs
@@ -95,8 +96,8 @@ shared-slice-read-state c = omega (arith, state-long (c .before .before .before 
 state-requires : tie.Need-state-requires
 state-requires c κs = search needs
 
-answered-requires-3 : tie.Need-answered-requires-3
-answered-requires-3 c κs = search needs
+event-requires-3 : tie.Need-event-requires-3
+event-requires-3 c κs = search needs
 
 enum-told-5 : tie.Need-enum-told-5
 enum-told-5 c = search needs
@@ -136,7 +137,7 @@ returns-2 c =
     let p = k .before .before .before .before in
     let a = p .before .before .before .before .before .before .before .args in
     let e = is-trap _ (a .kind) (now (a .body)) _ (p .word-at .ensures) (p .before .enum-told2 .given .1) in
-    steps-answer _ _ _ _ _ _ _ _ _ (k .trap .ensures ∙ e) (h .answered .ensures)
+    steps-shown _ _ _ _ _ _ _ _ _ [] (k .trap .ensures ∙ e) (h .event .ensures)
 
 same-length-7 : tie.Need-same-length-7
 same-length-7 c = search needs
@@ -154,7 +155,7 @@ returns-3 c =
     let p = k .before .before .before .before in
     let a = p .before .before .before .before .before .before .before .args in
     let e = is-schedule _ (a .kind) (now (a .body)) _ (p .word-at2 .ensures) (p .before .enum-told3 .given .1) in
-    steps-answer _ _ _ _ _ _ _ _ _ (k .schedule .ensures ∙ e) (h .answered2 .ensures)
+    steps-shown _ _ _ _ _ _ _ _ _ [] (k .schedule .ensures ∙ e) (h .event2 .ensures)
 
 same-length-10 : tie.Need-same-length-10
 same-length-10 c = search needs
@@ -172,7 +173,7 @@ returns-4 c =
     let p = k .before .before .before .before in
     let a = p .before .before .before .before .before .before .before .args in
     let e = is-state _ (a .kind) (now (a .body)) _ (p .word-at3 .ensures) (p .before .enum-told4 .given .1) in
-    steps-answer _ _ _ _ _ _ _ _ _ (k .state .ensures ∙ e) (h .answered3 .ensures)
+    steps-shown _ _ _ _ _ _ _ _ _ [] (k .state .ensures ∙ e) (h .event3 .ensures)
 
 same-length-13 : tie.Need-same-length-13
 same-length-13 c = search needs
@@ -202,19 +203,19 @@ step-spec =
     part-trap-start
     part-trap-end
     trap-requires
-    answered-requires
+    event-requires
     enum-told-3
     word-at-requires-2
     sub-schedule
     part-schedule-start
     part-schedule-end
     schedule-requires
-    answered-requires-2
+    event-requires-2
     enum-told-4
     word-at-requires-3
     shared-slice-read-state
     state-requires
-    answered-requires-3
+    event-requires-3
     enum-told-5
     restart-requires
     same-length

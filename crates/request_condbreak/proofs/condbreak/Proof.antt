@@ -19,27 +19,31 @@ add-requires c κs = search needs
 
 returns : tie.Need-returns
 unfolding condbreak
-returns c = rw (c .before .match .keys1) (c .begin .ensures _ _)
+returns c = λ regs. rw (c .before .match .keys1) (c .begin .ensures _ regs)
 
 same-length : tie.Need-same-length
 same-length c = search needs
 
 returns-2 : tie.Need-returns-2
 unfolding condbreak
-returns-2 c = let s = c .before .before in rw (s .before .before .match .keys2) (s .set .ensures)
+returns-2 c =
+    let s = c .before .before in
+    λ regs. rw (s .before .before .match .keys2) (s .set .ensures regs)
 
 same-length-2 : tie.Need-same-length-2
 same-length-2 c = search needs
 
 returns-3 : tie.Need-returns-3
 unfolding condbreak
-returns-3 c = let d = c .before .before in rw (d .before .before .match .keys3) (d .delete .ensures)
+returns-3 c =
+    let d = c .before .before in
+    λ regs. rw (d .before .before .match .keys3) (d .delete .ensures regs)
 
 returns-4 : tie.Need-returns-4
 unfolding condbreak
 returns-4 c =
     let r = c .before .match .rest in
-    rw (ne-eqb _ 110 (r .0 .0 .1), ne-eqb _ 98 (r .0 .1), ne-eqb _ 100 (r .1)) (c .add .ensures _ _)
+    λ regs. rw (ne-eqb _ 110 (r .0 .0 .1), ne-eqb _ 98 (r .0 .1), ne-eqb _ 100 (r .1)) (c .add .ensures _ regs)
 
 pub condbreak-spec : {M : Type 1} → statement M
 condbreak-spec =

@@ -10,7 +10,7 @@ use Rattle.target_fit.specs.Fit.{entryOf}
 use Rattle.step_effect.specs.Change.{applied}
 use Rattle.rules.specs.Condition.{deleteBreakpoint}
 use Rattle.rules.proofs.Found.{id-is-used}
-use Rattle.rules.specs.Outcome.{replied, error}
+use Rattle.rules.specs.Outcome.{repliedWith, replied, error}
 use Rattle.wire.specs.declared.Message.the-variants.{Rcondbreak}
 use Rattle.request_condbreak.proofs.Laws.{id-found}
 use Rattle.target_fit.proofs.Slots.{eight-entries}
@@ -19,7 +19,7 @@ use Rattle.request_condbreak.proofs.delete.Tie as tie
 
 -- where the code starts, from where it has looked for the id
 abbrev start : tie.After-entry-of → tie.Start
-start f = f .before .before .before .before .before .before .before
+start f = f .before .before .before .before .before .before
 
 found : (f : tie.After-entry-of) → f .entry-of .result ≡ entryOf (start f .args .t .table .entries) (start f .args .val)
 found f = let s = start f in f .entry-of .ensures ∙ id-found (s .args .t) (s .args .s) (s .args .val) (s .pre .ids)
@@ -34,8 +34,10 @@ with-requires : tie.Need-with-requires
 with-requires c κs = search needs
 
 returns : tie.Need-returns
-unfolding applied deleteBreakpoint error replied
-returns c = let t = c .before in rw (lt-leb _ 255 (t .if1 .taken), c .with .ensures, t .before .bytes-of .ensures)
+unfolding applied deleteBreakpoint error repliedWith
+returns c =
+    let t = c .before in
+    λ regs. rw (lt-leb _ 255 (t .if1 .taken), c .with .ensures, t .before .bytes-of .ensures)
 
 entry-of-requires : tie.Need-entry-of-requires
 entry-of-requires c κs = search needs
@@ -64,23 +66,25 @@ returns-2 c =
     let s = start f in
     let es = s .args .t .table .entries in
     let val = s .args .val in
+    λ regs.
     rw (
       le-leb val 255 (omega arith),
       lt-ltb (entryOf es val) (length es) (omega (arith, eight s, found f)),
       ← found f,
     )
-    (c .done .ensures (s .args .t) _ _ ∙ ap (replied Rcondbreak) (r .put-back .ensures (now (s .args .regs))))
+    (c .done .ensures (s .args .t) _ regs ∙ ap (replied Rcondbreak) (r .put-back .ensures regs))
 
 with-requires-2 : tie.Need-with-requires-2
 with-requires-2 c κs = search needs
 
 returns-3 : tie.Need-returns-3
-unfolding applied deleteBreakpoint error replied
+unfolding applied deleteBreakpoint error repliedWith
 returns-3 c =
     let f = c .before .before in
     let s = start f in
     let es = s .args .t .table .entries in
     let val = s .args .val in
+    λ regs.
     rw (
       le-leb val 255 (omega arith),
       le-ltb (entryOf es val) (length es) (omega (arith, eight s, found f)),

@@ -1,7 +1,7 @@
 -- `request_condbreak::done` meets its contract: the change with no plain bytes beside it, and the reply, are the
 -- definition's. Assumes nothing.
 use borrow.Author.Needs.{needs}
-use Rattle.rules.specs.Outcome.{replied}
+use Rattle.rules.specs.Outcome.{repliedWith}
 use Rattle.request_condbreak.proofs.done.Statement.{statement}
 use Rattle.request_condbreak.proofs.done.Tie as tie
 
@@ -12,7 +12,7 @@ with-requires : tie.Need-with-requires
 with-requires c κs = search needs
 
 returns : tie.Need-returns
-unfolding replied
+unfolding repliedWith
 returns c = λ t mem regs. rw (c .with .ensures, c .before .bytes-of .ensures)
 
 pub done-spec : {M : Type 1} → statement M

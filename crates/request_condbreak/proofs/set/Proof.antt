@@ -2,6 +2,8 @@
 -- window. Assumes nothing.
 use mathlib.Core.Path.{_≡_, sym, _∙_}
 use mathlib.Core.Bool.{true}
+use mathlib.Core.List.{List, []}
+use Prim.Native.Nat.{ℕ}
 use native.Mathlib.Omega.{arith}
 use borrow.Author.Needs.{needs}
 use borrow.Author.Tests.{eq-eqb, ne-eqb, not-true, not-false}
@@ -16,33 +18,34 @@ use Rattle.request_condbreak.proofs.set.Tie as tie
 
 -- the world and the address, from where the site is tested
 abbrev start : tie.After-site-free → tie.Start
-start f = f .before .before .before .before .before .before .before
+start f = f .before .before .before .before .before .before
 
-abbrev world-at : tie.After-site-free → World
-world-at f = let a = start f .args in world (a .t) (now (a .mem)) (now (a .regs))
+abbrev world-at : tie.After-site-free → List ℕ → World
+world-at f regs = let a = start f .args in world (a .t) (now (a .mem)) regs
 
 -- what the first two tests know
-held : (f : tie.After-site-free) → inHand (world-at f) ≡ true
+held : (f : tie.After-site-free) (regs : List ℕ) → inHand (world-at f regs) ≡ true
 unfolding inHand
-held f = rw (ne-eqb _ 0 (f .before .if1 .left))
+held f regs = rw (ne-eqb _ 0 (f .before .if1 .left))
 
-tested : (f : tie.After-site-free) → siteFree (world-at f) (start f .args .val) ≡ f .site-free .result
-tested f = sym (f .site-free .ensures _ _)
+tested : (f : tie.After-site-free) (regs : List ℕ) → siteFree (world-at f regs) (start f .args .val)
+    ≡ f .site-free .result
+tested f regs = sym (f .site-free .ensures _ regs)
 
-free : (e : tie.Else2) → siteFree (world-at (e .before)) (start (e .before) .args .val) ≡ true
-free e = tested (e .before) ∙ not-false _ (e .if2 .left)
+free : (e : tie.Else2) (regs : List ℕ) → siteFree (world-at (e .before) regs) (start (e .before) .args .val) ≡ true
+free e regs = tested (e .before) regs ∙ not-false _ (e .if2 .left)
 
 fail-requires : tie.Need-fail-requires
 fail-requires c κs = search needs
 
 returns : tie.Need-returns
 unfolding setBreakpoint inHand
-returns c = rw (eq-eqb _ 0 (c .before .if1 .taken)) (c .fail .ensures _ _ _)
+returns c = λ regs. rw (eq-eqb _ 0 (c .before .if1 .taken)) (c .fail .ensures _ _ regs)
 
 site-free-requires : tie.Need-site-free-requires
 site-free-requires c κs =
-    let s = c .before .before .before .before .before .before in
-    ready-findable (s .args .t) _ _ _ _ (s .good .0) (s .pre)
+    let s = c .before .before .before .before .before in
+    ready-findable (s .args .t) _ _ _ (s .good .0) (s .pre)
 
 fail-requires-2 : tie.Need-fail-requires-2
 fail-requires-2 c κs = search needs
@@ -51,7 +54,7 @@ returns-2 : tie.Need-returns-2
 unfolding setBreakpoint
 returns-2 c =
     let f = c .before .before in
-    rw (held f, tested f ∙ not-true _ (c .before .if2 .taken)) (c .fail2 .ensures _ _ _)
+    λ regs. rw (held f regs, tested f regs ∙ not-true _ (c .before .if2 .taken)) (c .fail2 .ensures _ _ regs)
 
 depth-of-requires : tie.Need-depth-of-requires
 depth-of-requires c κs = search needs
@@ -64,21 +67,24 @@ unfolding setBreakpoint wellFormed
 returns-3 c =
     let d = c .before .before in
     let e = d .before .before in
-    rw (held (e .before), free e, ne-eqb _ 1 (λ h. c .before .if3 .taken (d .depth-of .ensures .0 ∙ h)))
-    (c .fail3 .ensures _ _ _)
+    λ regs. rw (
+      held (e .before) regs,
+      free e regs,
+      ne-eqb _ 1 (λ h. c .before .if3 .taken (d .depth-of .ensures .0 ∙ h)),
+    ) (c .fail3 .ensures _ _ regs)
 
 plant-requires : tie.Need-plant-requires
 plant-requires c κs =
     let e = c .before .before .before .before in
     let f = e .before in
-    let w = world-at f in
+    let w = world-at f [] in
     let s = start f in
-    let low = site-low w (s .args .val) (free e) in
+    let low = site-low w (s .args .val) (free e []) in
     record {
       traps = s .pre .sites;
       plain = s .pre .plain;
       low = low;
-      high = omega (arith, site-high w (s .args .val) (free e), s .pre .memory);
+      high = omega (arith, site-high w (s .args .val) (free e []), s .pre .memory);
     }
 
 same-length : tie.Need-same-length
@@ -91,7 +97,8 @@ returns-4 c =
     let t = p .before .before in
     let d = t .before in
     let e = d .before .before in
-    rw (held (e .before), free e, eq-eqb _ 1 (sym (d .depth-of .ensures .0) ∙ t .if3 .left)) (p .plant .ensures _)
+    λ regs. rw (held (e .before) regs, free e regs, eq-eqb _ 1 (sym (d .depth-of .ensures .0) ∙ t .if3 .left))
+    (p .plant .ensures regs)
 
 pub set-spec : {M : Type 1} → statement M
 set-spec =

@@ -35,7 +35,7 @@ module _ (z : tie.After-stretch) (q : Place) (e : place-at z .place-of .result �
   place-is = named _ _ _ _ _ _ (place-at z .place-of .ensures) e
 
   place-in : let a = start z .args in placeOf (a .t .base) (length (now (a .mem))) (a .addr) (a .n) ≡ q
-  place-in = let a = start z .args in ap (λ (n : ℕ). placeOf (a .t .base) n (a .addr) (a .n)) (start z .pre .memory)
+  place-in = let a = start z .args in ap (λ (n : ℕ). placeOf (a .t .base) n (a .addr) (a .n)) (start z .pre .0 .memory)
       ∙ place-is
 
 -- the stretch that it names
@@ -63,13 +63,14 @@ place-of-requires c κs = search needs
 block-of-requires : tie.Need-block-of-requires
 block-of-requires c κs =
     let s = c .before .before .before .before in
-    let l = ready-listed _ _ _ _ (s .pre) in
+    let l = ready-listed _ (s .args .s) _ (now (s .args .regs)) (s .pre) in
     (l .few, l .current)
 
 block-part-requires : tie.Need-block-part-requires
 block-part-requires c κs =
     let s = c .before .before .before .before .before in
-    λ i e. block-within (s .args .t) _ (ready-listed _ _ _ _ (s .pre)) _ i (c .block-of .ensures) e
+    λ i e. block-within (s .args .t) _ (ready-listed _ (s .args .s) _ (now (s .args .regs)) (s .pre)) _ i
+    (c .block-of .ensures) e
 
 stretch-requires : tie.Need-stretch-requires
 stretch-requires c κs = search needs
@@ -110,7 +111,8 @@ returns-2 c =
     let q = place-is z Registers (e .enum-told .given .1) in
     got-from (world-at z) _ _ (place-at z .before .if1 .left) _ q _
     (got-registers (world-at z) _ _ _ (b .block-of .ensures)
-    (λ i g. block-within (s .args .t) _ (ready-listed _ _ _ _ (s .pre)) _ i (b .block-of .ensures) g)
+    (λ i g. block-within (s .args .t) _ (ready-listed _ (s .args .s) _ (now (s .args .regs)) (s .pre)) _ i
+    (b .block-of .ensures) g)
     (within-registers _ _ _ _ q) _
     (rw (stretch-is z, place-in z Registers (e .enum-told .given .1)) at (c .block-reply .ensures)))
 
@@ -123,7 +125,7 @@ returns-3 c =
     let a = s .args in
     got-from (world-at z) _ _ (place-at z .before .if1 .left) _ (place-is z Window (e .enum-told2 .given .1)) _
     (got-window (world-at z) _ _ (c .rmget2 .ensures) (a .addr) (a .n)
-    (rw (← s .pre .sites, ← s .pre .plain)
+    (rw (← s .pre .0 .sites, ← s .pre .0 .plain)
     (p .read .ensures
     ∙ read-window (now (a .mem)) (a .t .base) (a .addr) (a .n) _ (a .s .sites) (a .s .plain) _
     (place-in z Window (e .enum-told2 .given .1)) (stretch-is z))))

@@ -90,7 +90,7 @@ write-requires c κs =
     let a = s .args in
     let h = inside e in
     let z = length-take-le (a .n) (bytes4 (a .d)) (s .pre .1) in
-    omega (arith, s .pre .0 .memory)
+    omega (arith, s .pre .0 .0 .memory)
 
 -- where the code has its reply, and where it starts, from where it has written
 abbrev replied : tie.After-write → tie.After-bytes-of
@@ -110,7 +110,7 @@ to-window p x h =
     h
 
 plain-sixteen : (p : tie.After-write) → 16 ≡ length (start p .args .s .plain)
-plain-sixteen p = let s = start p in sixteen (s .args .t) _ _ _ _ (s .good .0) (s .pre .0)
+plain-sixteen p = let s = start p in sixteen (s .args .t) _ _ _ (s .good .0) (s .pre .0 .0)
 
 slice-aggregate-equal : tie.Need-slice-aggregate-equal
 slice-aggregate-equal c = plain-sixteen (c .before .before .before .before)
@@ -139,7 +139,8 @@ returns-2 c =
     let a = s .args in
     rw (c .with3 .ensures)
     (to-window p _
-    (put-same (world (a .t) (now (a .mem)) (now (a .regs))) (a .addr) _ _ _ (s .pre .0 .sites) (s .pre .0 .plain) _ _ _
+    (put-same (world (a .t) (now (a .mem)) (now (a .regs))) (a .addr) _ _ _ (s .pre .0 .0 .sites) (s .pre .0 .0 .plain)
+    _ _ _
     (p .write .ensures .0) (p .write .ensures .1) (replied p .bytes-of .ensures)
     (two-each (a .t) _ (s .good .0)) (sym (q .equal .ensures) ∙ c .before .if2 .taken)))
 
@@ -176,7 +177,8 @@ returns-4 c =
     let s = start p in
     let a = s .args in
     to-window p _
-    (put-window (world (a .t) (now (a .mem)) (now (a .regs))) (a .addr) _ _ _ (s .pre .0 .sites) (s .pre .0 .plain) _ _
+    (put-window (world (a .t) (now (a .mem)) (now (a .regs))) (a .addr) _ _ _ (s .pre .0 .0 .sites)
+    (s .pre .0 .0 .plain) _ _
     _
     (p .write .ensures .0) (p .write .ensures .1) (replied p .bytes-of .ensures))
 

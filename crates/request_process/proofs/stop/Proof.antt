@@ -41,7 +41,7 @@ returns-2 c =
     let k = b .before .before in
     λ mem regs.
     replies _ _ _ _ (c .with .ensures) (b .bytes-of .ensures)
-    ∙ when-stopped _ _ _ (k .before .before .find .ensures) _ _ (k .found .given .1) _ _ _ (c .before .if1 .taken)
+    ∙ when-stopped _ _ _ (k .before .before .find .ensures) _ _ (k .found .given .1) _ _ (c .before .if1 .taken)
 
 with-requires-2 : tie.Need-with-requires-2
 with-requires-2 c κs = search needs
@@ -53,7 +53,7 @@ returns-3 c =
     let k = b .before .before in
     λ mem regs.
     replies _ _ _ _ (c .with2 .ensures) (b .bytes-of .ensures)
-    ∙ when-not _ _ _ (k .before .before .find .ensures) _ _ (k .found .given .1) _ _ _ (c .before .if1 .left)
+    ∙ when-not _ _ _ (k .before .before .find .ensures) _ _ (k .found .given .1) _ _ (c .before .if1 .left)
 
 pub stop-spec : {M : Type 1} → statement M
 stop-spec =

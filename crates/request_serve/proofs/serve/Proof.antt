@@ -8,6 +8,7 @@ use native.Mathlib.Omega.{arith}
 use borrow.Author.Needs.{needs}
 use denote.Enum.Declared.{tagOf}
 use Rattle.memory.specs.Head.{house}
+use Rattle.breakpoint.proofs.Laws.{ready-findable}
 use Rattle.target_fit.proofs.Laws.{fit-few}
 use Rattle.common.specs.Keys.{among}
 use Rattle.common.proofs.Keys.{among-yes}
@@ -34,7 +35,7 @@ put-few m addr n d e h = let f = sym (ap isMessage e) ∙ h in search parts
 
 -- there are four processes at most
 few : (c : tie.Start) → c .args .t .count ≤ 4
-few c = fit-few house (c .args .t) _ (c .pre .0 .fit)
+few c = fit-few house (c .args .t) _ (c .pre .0 .0 .fit)
 
 -- every message but the eight requests; a tag is the variant's place
 others : (w : World) (m : Message)
@@ -104,7 +105,10 @@ enum-known-m-7 : tie.Need-enum-known-m-7
 enum-known-m-7 c = search needs
 
 start-requires : tie.Need-start-requires
-start-requires c κs = search needs
+start-requires c κs =
+    let s = c .before .before .before .before .before .before in
+    let r = s .pre .0 in
+    (ready-findable (s .args .t) _ _ _ (s .good .0) (r .0), (few s, r .1))
 
 enum-known-m-8 : tie.Need-enum-known-m-8
 enum-known-m-8 c = search needs
@@ -161,26 +165,18 @@ returns-6 c = rw (c .before .before .m6 .given .1) (c .stop .ensures _ _)
 same-length-5 : tie.Need-same-length-5
 same-length-5 c = search needs
 
-same-length-6 : tie.Need-same-length-6
-same-length-6 c = search needs
-
 returns-7 : tie.Need-returns-7
 unfolding serve
-returns-7 c =
-    let p = c .before .before in
-    rw (p .before .before .before .before .m7 .given .1) (p .start .ensures)
+returns-7 c = rw (c .before .before .before .m7 .given .1) (c .start .ensures _)
 
-same-length-7 : tie.Need-same-length-7
-same-length-7 c = search needs
-
-same-length-8 : tie.Need-same-length-8
-same-length-8 c = search needs
+same-length-6 : tie.Need-same-length-6
+same-length-6 c = search needs
 
 returns-8 : tie.Need-returns-8
 unfolding serve
 returns-8 c =
     let p = c .before .before in
-    rw (p .before .before .before .before .m8 .given .1) (p .condbreak .ensures)
+    rw (p .before .before .before .m8 .given .1) (p .condbreak .ensures _)
 
 returns-9 : tie.Need-returns-9
 unfolding error applied
@@ -222,9 +218,7 @@ serve-spec =
     returns-5
     returns-6
     same-length-5
-    same-length-6
     returns-7
-    same-length-7
-    same-length-8
+    same-length-6
     returns-8
     returns-9)

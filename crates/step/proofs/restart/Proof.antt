@@ -34,9 +34,9 @@ returns c =
     let k = c .before .before .before in
     let m = k .before .before .before in
     let o = m .before .before .before in
-    let s = o .before .before .before .before .before .before .before .before .before in
+    let s = o .before .before .before .before .before .before .before .before in
     let ten : length (m .bytes-of .result) ≡ 10 = search needs in
-    restart-as _ _ (s .pre .0) _ _ _ (c .changing .ensures) (o .restore .ensures)
+    λ regs. restart-as _ _ (s .pre .0) _ _ _ (c .changing .ensures) (o .restore .ensures)
     (k .copy .ensures ∙ copy-whole (now (s .args .reply)) (m .bytes-of .result) (s .pre .1 ∙ sym ten)
     ∙ m .bytes-of .ensures)
 

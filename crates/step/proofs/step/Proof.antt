@@ -9,7 +9,7 @@ use Rattle.target_fit.proofs.Laws.{answered-yes, fit-few}
 use Rattle.memory.specs.Head.{house}
 use Rattle.event.proofs.Laws.{refuses}
 use Rattle.rules.specs.Outcome.{world}
-use Rattle.step_effect.specs.Ready.{Ready}
+use Rattle.step_effect.specs.Ready.{ReadyAll}
 use Rattle.step.specs.Kinds.{lentRight}
 use Rattle.rules.specs.Step.{sized}
 use Rattle.step.proofs.Laws.{ready-by, lent-request, lent-trap, lent-schedule, lent-restart, wrong-size}
@@ -32,7 +32,7 @@ lent : (k : tie.After-struct-known)
 lent k = let l = k .before .before .before in answered-yes _ _ (l .before .lent-right .ensures) (l .if2 .left)
 
 ready : (q : tie.Else3)
-    → let a = start (right-sized (q .before) .before) .args in Ready house (a .t) (q .before .before .check .result)
+    → let a = start (right-sized (q .before) .before) .args in ReadyAll house (a .t) (q .before .before .check .result)
     (now (a .mem)) (now (a .regs))
 unfolding sized
 ready q =
@@ -105,8 +105,8 @@ schedule-requires : tie.Need-schedule-requires
 schedule-requires c κs =
     let m = c .before in
     let ok = ready (m .before .before) in (
-      fit-few house _ _ (ok .fit),
-      ok .registers,
+      fit-few house _ _ (ok .0 .fit),
+      ok .1,
       lent-schedule _ _ _ (lent (m .before .before .before))
           (m .enum-told3 .given .1),
     )
@@ -115,15 +115,15 @@ enum-told-4 : tie.Need-enum-told-4
 enum-told-4 c = search needs
 
 state-requires : tie.Need-state-requires
-state-requires c κs = fit-few house _ _ (ready (c .before .before) .fit)
+state-requires c κs = fit-few house _ _ (ready (c .before .before) .0 .fit)
 
 enum-told-5 : tie.Need-enum-told-5
 enum-told-5 c = search needs
 
 restart-requires : tie.Need-restart-requires
 restart-requires c κs =
-    let m = c .before .before .before in
-    (ready (m .before .before), lent-restart _ _ _ (lent (m .before .before .before)) (m .enum-told5 .given .1))
+    let m = c .before .before in
+    (ready (m .before .before) .0, lent-restart _ _ _ (lent (m .before .before .before)) (m .enum-told5 .given .1))
 
 same-length-2 : tie.Need-same-length-2
 same-length-2 c = search needs
@@ -182,14 +182,11 @@ same-length-10 c = search needs
 same-length-11 : tie.Need-same-length-11
 same-length-11 c = search needs
 
-same-length-12 : tie.Need-same-length-12
-same-length-12 c = search needs
-
 returns-8 : tie.Need-returns-8
 returns-8 c =
     let r = c .before .before .before .before in
-    let m = r .before .before .before .before in
-    r .restart .ensures ∙ taken _ _ _ _ _ _ (lent (m .before .before .before)) _ (ready (m .before .before)) _
+    let m = r .before .before .before in
+    r .restart .ensures _ ∙ taken _ _ _ _ _ _ (lent (m .before .before .before)) _ (ready (m .before .before)) _
     (m .enum-told5 .given .1)
 
 pub step-spec : {M : Type 1} → statement M
@@ -230,5 +227,4 @@ step-spec =
     returns-7
     same-length-10
     same-length-11
-    same-length-12
     returns-8)

@@ -3,7 +3,7 @@ use mathlib.Core.Path.{sym}
 use borrow.Author.Needs.{needs}
 use Rattle.common.proofs.Keys.{among-yes}
 use Rattle.step_effect.specs.Change.{applied}
-use Rattle.rules.specs.Record.{withTable, withEntries, withProcesses, setState}
+use Rattle.rules.specs.Record.{withProcesses, setState}
 use Rattle.target_change.specs.Parts.{holding, processesAfter}
 use Rattle.target_change.proofs.Laws.{keeps-processes}
 use Rattle.target_change.proofs.processes_after.Statement.{statement}
@@ -14,12 +14,6 @@ enum-known-c c = search needs
 
 set-process-requires : tie.Need-set-process-requires
 set-process-requires c κs = search needs
-
-enum-known-c-2 : tie.Need-enum-known-c-2
-enum-known-c-2 c = search needs
-
-set-process-requires-2 : tie.Need-set-process-requires-2
-set-process-requires-2 c κs = search needs
 
 enum-told : tie.Need-enum-told
 enum-told c = search needs
@@ -32,15 +26,11 @@ unfolding applied holding processesAfter withProcesses setState
 returns c = rw (c .before .before .c .given .1) (c .set-process .ensures)
 
 returns-2 : tie.Need-returns-2
-unfolding applied holding processesAfter withTable withEntries withProcesses setState
-returns-2 c = rw (c .before .before .c2 .given .1) (c .set-process2 .ensures)
+returns-2 c = rw (c .before .enum-told .given .1) (c .restart-processes .ensures)
 
 returns-3 : tie.Need-returns-3
-returns-3 c = rw (c .before .enum-told .given .1) (c .restart-processes .ensures)
-
-returns-4 : tie.Need-returns-4
 unfolding holding processesAfter
-returns-4 c = sym (keeps-processes _ _ _ (among-yes _ _ (c .match .keys4)))
+returns-3 c = sym (keeps-processes _ _ _ (among-yes _ _ (c .match .keys3)))
 
 pub processes-after-spec : {M : Type 1} → statement M
 processes-after-spec =
@@ -48,11 +38,8 @@ processes-after-spec =
     (tie.spec
     enum-known-c
     set-process-requires
-    enum-known-c-2
-    set-process-requires-2
     enum-told
     restart-processes-requires
     returns
     returns-2
-    returns-3
-    returns-4)
+    returns-3)

@@ -15,9 +15,6 @@ first-free-requires c κs = search needs
 enum-known-c : tie.Need-enum-known-c
 enum-known-c c = search needs
 
-enum-known-c-2 : tie.Need-enum-known-c-2
-enum-known-c-2 c = search needs
-
 returns : tie.Need-returns
 unfolding indexAfter
 returns c = rw (c .before .enum-told .given .1) (c .first-free .ensures)
@@ -27,11 +24,7 @@ unfolding indexAfter
 returns-2 c = rw (c .before .c .given .1)
 
 returns-3 : tie.Need-returns-3
-unfolding indexAfter
-returns-3 c = rw (c .before .c2 .given .1)
-
-returns-4 : tie.Need-returns-4
-returns-4 c = no-index _ _ (among-yes _ _ (c .match .keys4))
+returns-3 c = no-index _ _ (among-yes _ _ (c .match .keys3))
 
 pub index-after-spec : {M : Type 1} → statement M
 index-after-spec =
@@ -40,8 +33,6 @@ index-after-spec =
     enum-told
     first-free-requires
     enum-known-c
-    enum-known-c-2
     returns
     returns-2
-    returns-3
-    returns-4)
+    returns-3)

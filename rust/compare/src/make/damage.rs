@@ -249,15 +249,16 @@ impl Writer<'_> {
 
     /// A step of any kind that would do something.
     fn try_out(&mut self) {
-        match self.burst.rng.below(10) {
+        match self.burst.rng.below(11) {
             0 => self.steps(Burst::memory),
             1 => self.steps(Burst::condition),
             2 => self.steps(Burst::pid_request),
             3 | 4 => self.steps(Burst::trap),
             5 => self.steps(Burst::schedule),
             6 => self.steps(Burst::state),
-            7 => self.steps(|burst| burst.steps.push(Step::Restart)),
-            8 => self.wrong_size(),
+            7 => self.steps(Burst::release),
+            8 => self.steps(|burst| burst.steps.push(Step::Restart)),
+            9 => self.wrong_size(),
             _ => self.steps(Burst::noise),
         }
     }

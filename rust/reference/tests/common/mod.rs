@@ -38,12 +38,26 @@ pub fn rerr(reason: Reason) -> [u8; 10] {
     reply(1, &reason.text())
 }
 
-/// A request that must get number 0.
-pub fn ask(session: &mut Session, request: [u8; 10]) -> [u8; 10] {
+/// A request that must get number 0, with the plain bytes that the answer has beside the reply.
+pub fn ask_both(session: &mut Session, request: [u8; 10]) -> ([u8; 10], Option<[u8; 2]>) {
     let mut answer = [0xee; 10];
     let Session { stub, memory, registers } = session;
-    assert_eq!(stub.request(memory, registers, &request, &mut answer), Ok(()));
+    let plain = stub.request(memory, registers, &request, &mut answer);
+    (answer, plain.expect("number 0"))
+}
+
+/// A request that must get number 0 and the reply alone.
+pub fn ask(session: &mut Session, request: [u8; 10]) -> [u8; 10] {
+    let (answer, plain) = ask_both(session, request);
+    assert_eq!(plain, None, "{request:02x?}");
     answer
+}
+
+/// A Tstart that must be accepted; the plain bytes of its answer.
+pub fn start(session: &mut Session, pid: u32) -> Option<[u8; 2]> {
+    let (answer, plain) = ask_both(session, ten(14, pid, &[]));
+    assert_eq!(answer, reply(15, &[]));
+    plain
 }
 
 /// A condition and its b; all must be accepted.

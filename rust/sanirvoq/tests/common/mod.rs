@@ -1,7 +1,7 @@
 //! Shared by the tests: the worked setup, the bytes of requests, and what is asked of the stub.
 #![allow(dead_code)]
 
-use sanirvoq::{Refusal, Stub, Verdict, BLOCK, MESSAGE};
+use sanirvoq::{Refusal, Served, Stub, Verdict, BLOCK, MESSAGE};
 
 pub const B: u32 = 4_096;
 pub const TWO: [(u32, u32); 2] = [(5, 0x8000_1000), (7, 0x8000_2000)];
@@ -23,12 +23,25 @@ impl Session {
         Self { stub, memory, registers }
     }
 
-    /// A request that must get number 0.
+    /// A request that must get number 0 and the reply alone.
     pub fn ask(&mut self, request: [u8; MESSAGE]) -> [u8; MESSAGE] {
+        let (reply, served) = self.served(request);
+        assert_eq!(served, Served::Reply, "{request:02x?}");
+        reply
+    }
+
+    /// A request that must get number 0, with what it leaves to the kernel.
+    pub fn served(&mut self, request: [u8; MESSAGE]) -> ([u8; MESSAGE], Served) {
         let mut reply = [0xee; MESSAGE];
         let done = self.stub.request(&mut self.memory, &mut self.registers, &request, &mut reply);
-        assert_eq!(done, Ok(()));
-        reply
+        (reply, done.expect("number 0"))
+    }
+
+    /// A Tstart that must be accepted.
+    pub fn start(&mut self, pid: u32) -> Served {
+        let (reply, served) = self.served(with(14, pid, &[]));
+        assert_eq!(reply, ten(15, &[]));
+        served
     }
 
     /// A condition and its b; all must be accepted.
