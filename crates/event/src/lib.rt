@@ -12,7 +12,7 @@ ghost use mathlib.Core.List.{List, []};
 ghost use Prim.Native.Nat.{ℕ, _+_, _*_, _≤_};
 ghost use lib.ListN.{length, replicate};
 ghost use Rattle.memory.specs.Head.{house};
-ghost use Rattle.target.specs.Limits.{blockSize, maxProcesses, stopped};
+ghost use Rattle.target.specs.Limits.{blockSize, maxPlain, maxProcesses, stopped};
 ghost use Rattle.rules.specs.Outcome.{world};
 ghost use Rattle.rules.specs.Record.{saved};
 ghost use Rattle.step_effect.specs.Ready.{ReadyAll, effectOutcome};
@@ -33,7 +33,7 @@ fn save(regs: &mut [u8], i: usize, block: &[u8])
 fn stop(regs: &mut [u8], i: usize, block: &[u8], answer: Answer) -> Effect
     requires { ⌜ (blockSize * i + blockSize ≤ length (now regs)) × (length (now block) ≡ blockSize) ⌝ }
     ensures { λ r. ⌜ (r
-        ≡ record { number = 0; answer = answer; change = change.State i stopped 0; plain = replicate 16 0 })
+        ≡ record { number = 0; answer = answer; change = change.State i stopped 0; plain = replicate maxPlain 0 })
         × (now (regs .exit) ≡ saved (now (regs .entry)) i (now (block .entry))) ⌝ }
 {
     save(regs, i, block);

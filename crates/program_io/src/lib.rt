@@ -3,12 +3,14 @@
 use libc::STDIN_FILENO;
 use libc::STDOUT_FILENO;
 use program_run::End;
+use target::Process;
 use target::Target;
 ghost use mathlib.Core.Path.{_≡_};
 ghost use Prim.Native.Nat.{_+_, _-_, _*_, _≤_};
 ghost use lib.ListN.{length, take, drop, replicate};
 ghost use lib.Seq.{paste};
 ghost use Rattle.common.specs.Tab.{tab};
+ghost use Rattle.target.specs.Limits.{blockSize};
 ghost use Rattle.rules.specs.Outcome.{world};
 ghost use Rattle.program_run.specs.Encoding.{stepMost};
 ghost use Rattle.program_run.specs.Run.{goesOn};
@@ -17,7 +19,7 @@ ghost use Rattle.program_io.specs.Session.{Begins, TurnLeaves};
 // The bytes of the worked setup's window, and of the register area of its two processes.
 const WINDOW: usize = 64;
 
-const REGISTERS: usize = 272;
+const REGISTERS: usize = 2 * Process::BLOCK;
 
 // What the program begins with: the record, the window's memory and the register area.
 struct Beginning {
@@ -51,7 +53,7 @@ fn window() -> [u8; WINDOW]
 
 // The register area of the two processes: zeros.
 fn registers() -> [u8; REGISTERS]
-    ensures { λ r. ⌜ r ≡ replicate 272 0 ⌝ }
+    ensures { λ r. ⌜ r ≡ replicate (2 * blockSize) 0 ⌝ }
 {
     [0; REGISTERS]
 }

@@ -14,6 +14,7 @@ ghost use mathlib.Core.List.{List};
 ghost use Prim.Native.Nat.{ℕ};
 ghost use lib.ListN.{replicate};
 ghost use Rattle.memory.specs.Head.{house};
+ghost use Rattle.target.specs.Limits.{maxPlain};
 ghost use Rattle.target.specs.declared.Target.{Target};
 ghost use Rattle.rules.specs.Outcome.{world, replied};
 ghost use Rattle.step_effect.specs.Change.{applied};
@@ -29,7 +30,7 @@ ghost use Rattle.request_condbreak.specs.Plantable.{Plantable};
 // A change of the record, and Rcondbreak.
 fn done(change: Change) -> Served
     ensures { λ r. ⌜ ((t : Target) (mem regs : List ℕ) → servedOutcome t r mem regs
-        ≡ replied message.Rcondbreak (world (applied t change (replicate 16 0)) mem regs)) ⌝ }
+        ≡ replied message.Rcondbreak (world (applied t change (replicate maxPlain 0)) mem regs)) ⌝ }
 {
     Served::with(change, wire::bytes_of(Message::Rcondbreak))
 }

@@ -4,7 +4,7 @@
 use mathlib.Core.Path.{_≡_}
 use mathlib.Core.Bool.{Bool, cond, not, _&&_}
 use mathlib.Core.List.{List, [], _∷_, _++_}
-use Prim.Native.Nat.{ℕ}
+use Prim.Native.Nat.{ℕ, _*_}
 use Prim.Native.Char.{code}
 use lib.Dec.{ltb, eqb}
 use lib.ListN.{length, getD, replicate}
@@ -14,7 +14,7 @@ use Rattle.common.specs.Numbers.{accepted, notFit, noSite}
 use Rattle.memory.specs.Head.{house, trapBytes}
 use Rattle.memory.specs.Overlay.{laidOver}
 use Rattle.target.specs.Free.{isFree}
-use Rattle.target.specs.Limits.{blockSize, pcOffset}
+use Rattle.target.specs.Limits.{blockSize, maxPlain, pcOffset}
 use Rattle.target.specs.declared.Target.{Target}
 use Rattle.wire_text.specs.declared.Reason.{Reason}
 use Rattle.rules.specs.declared.Answer.the-variants.{Nothing, Pass, Yes, No}
@@ -97,7 +97,7 @@ plantsNothing t mem e =
 -- reads real memory: in a step of that kind the trap's bytes are taken for the plain ones
 unfoldable pub readsReal : ℕ → Acts
 readsReal k = changing k (λ t mem e o.
-    let trapsOnly = laidOver (trapBytes house) (0 ∷ 2 ∷ 4 ∷ 6 ∷ 8 ∷ 10 ∷ 12 ∷ 14 ∷ []) (replicate 16 0) in
+    let trapsOnly = laidOver (trapBytes house) (0 ∷ 2 ∷ 4 ∷ 6 ∷ 8 ∷ 10 ∷ 12 ∷ 14 ∷ []) (replicate maxPlain 0) in
     let v = stepOf house (withEntries t (withPlains (t .table .entries) trapsOnly)) mem e in
     outcome (v .number) (v .answer) (o .after) (v .reply))
 
@@ -197,7 +197,7 @@ SaysRow (memory f es) = RealAfter (stubOf f) es
 
 -- a register area of zeros, and a request, its ten bytes given as one number
 abbrev pub zeroed : List ℕ
-zeroed = replicate 272 0
+zeroed = replicate (2 * blockSize) 0
 
 abbrev pub asking : ℕ → Step
 asking b = request zeroed (highFirst 10 b) (replicate 10 0)

@@ -1,11 +1,11 @@
 -- 01, "Worked set": the cases marked (*), and the refusals of case 11, as one table. Claims.antt states it, `worked`
 -- proves it.
 use mathlib.Core.List.{List, [], _∷_, _++_}
-use Prim.Native.Nat.{ℕ}
+use Prim.Native.Nat.{ℕ, _*_}
 use lib.ListN.{take, drop, replicate}
 use Rattle.common.specs.Bytes.{highFirst}
 use Rattle.common.specs.Tab.{tab}
-use Rattle.target.specs.Limits.{pcOffset}
+use Rattle.target.specs.Limits.{blockSize, pcOffset}
 use Rattle.target.specs.declared.Target.{Target}
 use Rattle.rules.specs.Outcome.{World, Outcome, shown}
 use Rattle.rules.specs.Step.{Setup, setupBy, Step, request, trapEvent, stateEvent, restartStep}
@@ -35,7 +35,7 @@ workedSetup = record {
   addresses = 0x80001000 ∷ 0x80002000 ∷ [];
   count = 2;
   mem = tab 64 (λ i. i);
-  regs = replicate 272 0;
+  regs = replicate (2 * blockSize) 0;
 }
 
 -- what calls show after the worked setup, where f is what steps do

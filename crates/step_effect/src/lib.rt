@@ -4,6 +4,7 @@ use target::Table;
 use target::Target;
 ghost use mathlib.Core.Path.{_≡_};
 ghost use lib.ListN.{replicate};
+ghost use Rattle.target.specs.Limits.{maxPlain};
 ghost use Rattle.rules.specs.declared.Answer.the-variants as answer;
 ghost use Rattle.step_effect.specs.declared.Change.the-variants as change;
 
@@ -59,7 +60,8 @@ pub struct Served {
 impl Served {
     // A change other than of plain bytes, with an answer.
     pub fn answering(answer: Answer, change: Change, bytes: [u8; 10]) -> Served
-        ensures { λ r. ⌜ r ≡ record { answer = answer; change = change; plain = replicate 16 0; bytes = bytes } ⌝ }
+        ensures { λ r. ⌜ r
+            ≡ record { answer = answer; change = change; plain = replicate maxPlain 0; bytes = bytes } ⌝ }
     {
         Served {
             answer,
@@ -72,7 +74,7 @@ impl Served {
     // A change other than of plain bytes.
     pub fn with(change: Change, bytes: [u8; 10]) -> Served
         ensures { λ r. ⌜ r
-            ≡ record { answer = answer.Nothing; change = change; plain = replicate 16 0; bytes = bytes } ⌝ }
+            ≡ record { answer = answer.Nothing; change = change; plain = replicate maxPlain 0; bytes = bytes } ⌝ }
     {
         Served::answering(Answer::Nothing, change, bytes)
     }
@@ -82,7 +84,7 @@ impl Effect {
     // A step that leaves the record as it was.
     pub fn keeping(number: u8, answer: Answer) -> Effect
         ensures { λ r. ⌜ r
-            ≡ record { number = number; answer = answer; change = change.Same; plain = replicate 16 0 } ⌝ }
+            ≡ record { number = number; answer = answer; change = change.Same; plain = replicate maxPlain 0 } ⌝ }
     {
         let none = [0; Table::PLAIN];
         Effect {
@@ -95,7 +97,7 @@ impl Effect {
 
     // An accepted step that changes the record, other than plain bytes.
     pub fn changing(answer: Answer, change: Change) -> Effect
-        ensures { λ r. ⌜ r ≡ record { number = 0; answer = answer; change = change; plain = replicate 16 0 } ⌝ }
+        ensures { λ r. ⌜ r ≡ record { number = 0; answer = answer; change = change; plain = replicate maxPlain 0 } ⌝ }
     {
         let zeros = [0; Table::PLAIN];
         Effect {

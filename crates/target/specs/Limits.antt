@@ -1,9 +1,13 @@
 -- 01, "The target record and what is lent": its limits and its fixed numbers.
-use Prim.Native.Nat.{ℕ}
+use Prim.Native.Nat.{ℕ, _*_}
 
 -- "Breakpoints: at most 8"
 abbrev pub maxEntries : ℕ
 maxEntries = 8
+
+-- "the two plain bytes of the site", of all entries
+abbrev pub maxPlain : ℕ
+maxPlain = 2 * maxEntries
 
 -- "an id (0 to 255)"
 abbrev pub maxId : ℕ

@@ -11,7 +11,7 @@ use Rattle.memory.specs.Head.{Head}
 use Rattle.memory.specs.Overlay.{freeSite}
 use Rattle.memory.specs.Place.{isSite}
 pub use Rattle.target.specs.Limits.{stopped}
-use Rattle.target.specs.Limits.{maxEntries, maxProcesses}
+use Rattle.target.specs.Limits.{maxEntries, maxPlain, maxProcesses}
 use Rattle.target.specs.declared.Entry.{Entry}
 use Rattle.target.specs.declared.Draft.{Draft}
 use Rattle.target.specs.declared.Process.{Process}
@@ -126,7 +126,7 @@ unfitScan = record {
   fit = false;
   ids = replicate maxEntries freeId;
   sites = replicate maxEntries freeSite;
-  plain = replicate (2 * maxEntries) 0;
+  plain = replicate maxPlain 0;
 }
 
 unfoldable pub scanOf : Bool → ℕ → List Entry → Scan
