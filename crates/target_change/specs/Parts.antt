@@ -1,4 +1,4 @@
--- What a change makes of each part of the record but its entries (crate entries).
+-- What a change makes of each part of the record but its entries (crate target_entries).
 use Prim.Native.Nat.{ℕ}
 use mathlib.Core.List.{List, []}
 use Rattle.step_effect.specs.Change.{applied}

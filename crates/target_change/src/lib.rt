@@ -1,5 +1,6 @@
 // What a step changes in the record, made: part by part, so that a caller who has the record in its own memory writes
-// just the parts that change, and of a whole record. What becomes of the entries is in `entries`.
+// just the parts that change, and of a whole record. What becomes of the entries is in
+// `target_entries`.
 use step_effect::Change;
 use target::Draft;
 use target::Element;
