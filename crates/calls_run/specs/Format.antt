@@ -86,7 +86,8 @@ comparisonBytes r =
 
 -- the list is lent full of zeros
 unfoldable pub differencesBytes : List ℕ → List ℕ
-differencesBytes call = comparisonBytes (differencesOf (firstImage call) (secondImage call) (replicate (lengthsOf call .places) 0))
+differencesBytes call =
+    comparisonBytes (differencesOf (firstImage call) (secondImage call) (replicate (lengthsOf call .places) 0))
 
 -- what is written, and whether another call may follow
 pub record Output : Type 0 where

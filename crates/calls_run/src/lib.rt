@@ -79,7 +79,8 @@ fn put_all(out: &mut [u8], at: usize, list: &[u32], n: usize)
 fn show(c: Comparison, list: &[u32], out: &mut [u8]) -> usize
     requires { ⌜ (c .number ≡ accepted → 2 * c .runs ≤ length (now list)) × (length (now list) ≤ listHeld)
         × (answerMost ≤ length (now out)) ⌝ }
-    ensures { λ r. ⌜ Writes (comparisonBytes (compared c (now (list .entry)))) r (now (out .entry)) (now (out .exit)) ⌝ }
+    ensures { λ r. ⌜ Writes (comparisonBytes (compared c (now (list .entry))))
+        r (now (out .entry)) (now (out .exit)) ⌝ }
 {
     let number = c.number;
     let runs = c.runs;
@@ -149,7 +150,8 @@ fn compare(call: &[u8], l: Lengths, list: &mut [u32], out: &mut [u8]) -> usize
     requires { ⌜ (l ≡ lengthsOf (now call)) × (headBytes + l .first + l .second ≤ length (now call))
         × (length (now list) ≤ listHeld) × (answerMost ≤ length (now out)) ⌝ }
     ensures { λ r. ⌜ Writes
-        (comparisonBytes (differencesOf (firstImage (now (call .entry))) (secondImage (now (call .entry))) (now (list .entry))))
+        (comparisonBytes
+        (differencesOf (firstImage (now (call .entry))) (secondImage (now (call .entry))) (now (list .entry))))
         r (now (out .entry)) (now (out .exit)) ⌝ }
 {
     let from = HEAD + l.first;

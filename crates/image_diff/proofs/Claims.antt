@@ -62,7 +62,8 @@ pub accepted-fits : (a b list : List ℕ) (c : Comparison) (after : List ℕ) �
 unfolding differencesOf lacksRoom
 accepted-fits a b list c after e n =
     on-test (imagesWrong a b)
-    (λ w. let z : c .number ≡ wrongImages = ap (λ (r : Compared). r .answer .number) (rw w at e) in absurd (omega arith))
+    (λ w. let z : c .number ≡ wrongImages = ap (λ (r : Compared). r .answer .number) (rw w at e) in
+    absurd (omega arith))
     (λ w. on-test (lacksRoom list (runsOf a b))
     (λ l. let z : c .number ≡ shortRunList = ap (λ (r : Compared). r .answer .number) (rw (w, l) at e) in
     absurd (omega arith))

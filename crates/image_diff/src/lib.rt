@@ -9,7 +9,7 @@ ghost use Rattle.image_diff.specs.Answer.{compared, differencesOf};
 // The longest image that is accepted.
 pub const IMAGE_MOST: usize = 65536;
 
-// What a call compares-images: document 02's number and, unless it is 8, how many runs there are. Accepted, so many are in the
+// What a call answers: document 02's number and, unless it is 8, how many runs there are. Accepted, so many are in the
 // list. The layout is that of include/sanirvoq.h.
 #[repr(C)]
 pub struct Comparison {
