@@ -89,7 +89,7 @@ SANIRVOQ_ASSERT(offsetof(struct sanirvoq_target, table) == 68, "where the record
 
 /* ---- results ---- */
 
-/* The number of a step, as document 01 has it. */
+/* The number of a step or call, as document 01 has it; document 02 adds those from 8 on. */
 enum sanirvoq_number {
     SANIRVOQ_ACCEPTED = 0,
     SANIRVOQ_SETUP = 1,    /* a setup rule is broken; the record is empty afterwards */
@@ -98,7 +98,9 @@ enum sanirvoq_number {
     SANIRVOQ_UNLISTED = 4, /* an event names an unlisted pid */
     SANIRVOQ_STOPPED = 5,  /* a trap or state event of a Stopped process, or a state event with value 8 */
     SANIRVOQ_NO_SITE = 6,  /* a trap whose pc is at no breakpoint */
-    SANIRVOQ_NO_MESSAGE = 7
+    SANIRVOQ_NO_MESSAGE = 7,
+    SANIRVOQ_IMAGES = 8,  /* images of unequal length, or longer than SANIRVOQ_IMAGE */
+    SANIRVOQ_RUN_LIST = 9 /* a list that lacks room for the runs of differing bytes */
 };
 
 /* What every step returns: the number in the lowest byte, then the three bytes of the answer. Where the number is not
@@ -242,6 +244,26 @@ uint8_t sanirvoq_write(struct sanirvoq_fields fields, uint8_t *buffer, size_t le
 /* Reads ten bytes. number: 0 and the message's fields, or 2 where the buffer is not ten bytes, or 7 where the bytes
  * are those of no message; then the fields are all 0. */
 struct sanirvoq_found sanirvoq_read(const uint8_t *bytes, size_t length);
+
+/* ---- what differs between two images; needs no record ---- */
+
+enum { SANIRVOQ_IMAGE = 65536 }; /* bytes of the longest image */
+
+/* number: 0, 8 or 9. runs: how many runs of differing bytes there are; 0 where the number is 8. */
+struct sanirvoq_comparison {
+    uint8_t number;
+    uint32_t runs;
+};
+
+SANIRVOQ_ASSERT(sizeof(struct sanirvoq_comparison) == 8, "the size of a comparison");
+
+/* Fills the list from its start with every maximal run of differing bytes once, rising: run k is list[2 * k], the
+ * offset of its first byte, and list[2 * k + 1], its length. places is the list's length in numbers. Other places
+ * stay, and where the number is not 0 all do: 8 where the images have unequal lengths or are longer than
+ * SANIRVOQ_IMAGE, 9 where the list is shorter than two places for each run. The images may be one buffer or overlap;
+ * the list is apart from both. */
+struct sanirvoq_comparison sanirvoq_image_differences(const uint8_t *a, size_t a_length, const uint8_t *b,
+                                                      size_t b_length, uint32_t *list, size_t places);
 
 #ifdef __cplusplus
 }

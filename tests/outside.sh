@@ -62,6 +62,10 @@ example_c() {
         diff examples/kernel.txt "$logs/kernel_c.txt"
 }
 
+images_c() {
+    c11 -O2 -Iinclude tests/image_differences.c "$library" -o "$logs/images_c" && under_valgrind "$logs/images_c"
+}
+
 example_rust() {
     crate run sanirvoq --example kernel > "$logs/kernel_rust.txt" &&
         diff examples/kernel.txt "$logs/kernel_rust.txt"
@@ -76,11 +80,14 @@ check example_c example_c
 check example_c_valgrind under_valgrind "$logs/kernel_c"
 check example_rust example_rust
 check examples_equal diff "$logs/kernel_c.txt" "$logs/kernel_rust.txt"
+check images_c images_c
 check wrapper tests_of sanirvoq
 check reference tests_of reference
 check steps tests_of steps
 check show_session python3 tests/show_session_test.py
 [ ! -x target/bin/program_main ] || check protocol_examples python3 tests/protocol_examples.py
+[ ! -x target/bin/calls_main ] || check calls_examples python3 tests/calls_examples.py
+[ ! -f tests/calls_vectors.py ] || check calls_vectors python3 tests/calls_vectors.py --check
 [ ! -f tests/wire_vectors.py ] || check wire_vectors python3 tests/wire_vectors.py --check
 [ ! -f tests/program_vectors.py ] || check program_vectors python3 tests/program_vectors.py --check
 if [ -f rust/compare/Cargo.toml ]; then

@@ -3,12 +3,14 @@
 // Every exported step has one form: the record, the memory, the register area, a pid, a byte, an input and a reply.
 // What a step does not use it leaves as it is. A setup gives back a whole record, which is stored. All other steps go
 // through one function, `capi_lent::step`.
+use image_diff::Comparison;
 use step::StepKind;
 use target::Target;
 use wire_fields::Fields;
 use wire_fields::Found;
 ghost use mathlib.Core.Path.{_≡_};
 ghost use Rattle.wire_fields.specs.Fields.{writeFields, foundBy};
+ghost use Rattle.image_diff.specs.Answer.{compared, differencesOf};
 ghost use Rattle.memory.specs.Head.{house};
 ghost use Rattle.capi_results.specs.Seen.{seen, seenOf, setupFrom};
 ghost use Rattle.rules.specs.Outcome.{world};
@@ -139,4 +141,13 @@ pub extern "C" fn sanirvoq_read(bytes: &[u8]) -> Found
     ensures { λ r. ⌜ r ≡ foundBy (readOf (now (bytes .entry))) ⌝ }
 {
     wire_fields::read(bytes)
+}
+
+// Where two images differ: every run of differing bytes goes into the list, two places a run.
+#[no_mangle]
+pub extern "C" fn sanirvoq_image_differences(a: &[u8], b: &[u8], list: &mut [u32]) -> Comparison
+    ensures { λ r. ⌜ compared r (now (list .exit))
+        ≡ differencesOf (now (a .entry)) (now (b .entry)) (now (list .entry)) ⌝ }
+{
+    image_diff::differences(a, b, list)
 }

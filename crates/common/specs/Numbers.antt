@@ -33,3 +33,11 @@ noSite = 6
 -- "message writer given no message, message reader given bytes of none"
 abbrev pub noMessage : ℕ
 noMessage = 7
+
+-- 02, One: not "of equal length, at most 65,536 bytes"
+abbrev pub wrongImages : ℕ
+wrongImages = 8
+
+-- 02, One: the lent list of runs "lacks room"
+abbrev pub shortRunList : ℕ
+shortRunList = 9

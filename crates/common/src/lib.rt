@@ -25,6 +25,10 @@ pub const NO_SITE: u8 = 6;
 
 pub const NO_MESSAGE: u8 = 7;
 
+pub const WRONG_IMAGES: u8 = 8;
+
+pub const SHORT_RUN_LIST: u8 = 9;
+
 // A byte in four. Its contract carries the bound that a product needs.
 fn wide(x: u8) -> u32
     ensures { λ r. ⌜ (r ≡ x) × (r < 256) ⌝ }

@@ -57,6 +57,31 @@ fn now() -> u64 {
     time.seconds as u64 * 1_000_000_000 + time.nanoseconds as u64
 }
 
+/// Times each work in turn, in every round; which is first changes from round to round. Gives what
+/// a turn of each took in each round, in nanoseconds.
+pub fn in_turn<S, const N: usize>(
+    plan: &Plan,
+    side: &mut S,
+    works: &mut [fn(&mut S); N],
+) -> [Vec<f64>; N] {
+    let mut turns = [1; N];
+    let mut rounds = [const { Vec::new() }; N];
+    for round in 0..WARM_UP + plan.rounds {
+        for k in (0..N).map(|k| (k + round) % N) {
+            rounds[k].push(loop {
+                let start = now();
+                (0..turns[k]).for_each(|_| works[k](side));
+                let taken = now() - start;
+                if taken >= plan.batch {
+                    break taken as f64 / turns[k] as f64;
+                }
+                turns[k] *= 2;
+            });
+        }
+    }
+    rounds.map(|all| all[WARM_UP..].to_vec())
+}
+
 /// What so many turns take.
 fn batch(side: &mut impl Side, work: &Work, turns: u64) -> u64 {
     let start = now();
@@ -201,6 +226,16 @@ mod tests {
         pair.round(0, 50_000);
         let Series { turns, rounds, .. } = &pair.rust.work;
         assert!(rounds[0] * *turns as f64 >= 50_000.0, "{turns} turns of {} ns", rounds[0]);
+    }
+
+    #[test]
+    fn works_in_turn_have_their_rounds() {
+        let plan = Plan { rounds: 3, batch: 10_000 };
+        let mut works: [fn(&mut u64); 2] = [|sum| *sum += 1, |sum| *sum += 1];
+        let (mut sum, rounds) = (0, 3);
+        let taken = in_turn(&plan, &mut sum, &mut works);
+        assert!(taken.iter().all(|work| work.len() == rounds), "{taken:?}");
+        assert!(sum >= 2 * (rounds as u64 + 1));
     }
 
     #[test]

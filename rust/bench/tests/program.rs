@@ -38,8 +38,36 @@ fn a_quick_run_prints_every_table() {
 }
 
 #[test]
+fn images_have_a_table_of_their_own() {
+    let output = bench(&["--quick", "--only", "images"]);
+    assert!(output.status.success(), "{}", text(&output.stderr));
+    let all = text(&output.stdout);
+    let rows = &block(all, "case ")[1..];
+    assert_eq!(rows.len(), 4, "{rows:#?}");
+    for row in rows {
+        let figures: Vec<f64> = row.split_whitespace().flat_map(str::parse).collect();
+        let [.., proved, rust, _, same_loops, ratio, _, _, _] = figures[..] else {
+            panic!("{row}")
+        };
+        assert!(proved > 0.0 && rust > 0.0 && same_loops > 0.0 && ratio > 0.0, "{row}");
+    }
+    assert!(all.contains("Size of the archive: ") && !all.contains("Deepest stack"), "{all}");
+}
+
+#[test]
+fn instructions_are_the_same_in_every_run() {
+    let counted = || bench(&["--instructions", "--only", "images, equal"]).stdout;
+    let all = counted();
+    let rows = block(text(&all), "case ");
+    let figures: Vec<u64> = rows[1].split_whitespace().flat_map(str::parse).collect();
+    assert!(figures.len() == 4 && figures.iter().all(|&count| count > 1_000), "{rows:#?}");
+    assert_eq!(text(&counted()), text(&all));
+}
+
+#[test]
 fn what_it_does_not_know_is_refused() {
-    for arguments in [&["--slow"][..], &["--only"], &["--only", "no such case"]] {
+    let calls = ["--calls", "nobody", "1"];
+    for arguments in [&["--slow"][..], &["--only"], &["--only", "no such case"], &calls] {
         let output = bench(arguments);
         assert!(!output.status.success() && output.stdout.is_empty(), "{arguments:?}");
         assert!(text(&output.stderr).starts_with("bench: "), "{arguments:?}");

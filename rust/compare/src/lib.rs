@@ -7,6 +7,7 @@
 //!   worth
 //! - [`pair`]: runs one [`op::Op`] on both sides and compares; what is compared when is said there
 //! - [`book`]: the book of demand 3 beside a session
+//! - [`images`]: image differences, a call without a session: pairs, both sides, counts
 //! - [`make`]: makes the lists, from a seed; the steps of a session come from `rust/steps`
 //! - [`tally`]: counts what was reached, besides what `rust/steps` counts
 //! - [`run`] and [`shrink`]: the whole run, and the short list where the sides differ
@@ -16,6 +17,7 @@
 pub mod archive;
 pub mod book;
 pub mod difference;
+pub mod images;
 pub mod independent;
 pub mod make;
 pub mod op;

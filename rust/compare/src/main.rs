@@ -1,16 +1,21 @@
-//! `compare [--seed N] [--steps N]` runs the proved stub and the independent one on the same steps.
-//! It prints what was reached; its last line is `N steps, no difference`. Where the sides differ it
-//! prints the shortest list of steps that shows it and what both have then.
+//! `compare [--seed N] [--steps N]` runs the proved stub and the independent one on the same steps,
+//! and for every twenty steps image differences of both on a pair of images. It prints what was
+//! reached; its last line is `N steps, no difference`. Where the sides differ it prints the shortest
+//! list of steps, or a short pair of images, that shows it and what both have then.
 
 #![forbid(unsafe_code)]
 
 use compare::archive::archive;
+use compare::images;
 use compare::run::Runner;
+use sanirvoq::call::image_differences;
 use std::process::ExitCode;
 use std::time::{Duration, Instant};
 
 /// From this many steps on, everything that can be reached must be.
 const ALL_REACHED: u64 = 200_000;
+/// To one pair of images.
+const STEPS_A_PAIR: u64 = 20;
 /// Between two lines on standard error.
 const PAUSE: Duration = Duration::from_secs(3);
 
@@ -57,8 +62,15 @@ fn main() -> ExitCode {
         print!("seed {seed}: the sides differ after\n{failure}");
         return ExitCode::FAILURE;
     }
-    print!("{}", runner.tally.table());
-    let lacking = runner.tally.lacking();
+    let compared = match images::run(image_differences, seed, steps / STEPS_A_PAIR) {
+        Ok(compared) => compared,
+        Err(failure) => {
+            print!("seed {seed}: the sides differ on\n{failure}");
+            return ExitCode::FAILURE;
+        }
+    };
+    print!("{}\n{}", runner.tally.table(), compared.table());
+    let lacking = [runner.tally.lacking(), compared.lacking()].concat();
     if steps >= ALL_REACHED && !lacking.is_empty() {
         for name in lacking {
             println!("never reached: {name}");

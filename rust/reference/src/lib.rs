@@ -1,5 +1,5 @@
-//! An independent reference of the debug stub that document 01 describes, with request Two of 02: a
-//! breakpoint survives a continue.
+//! An independent reference of the debug stub that document 01 describes, with request Two of 02 (a
+//! breakpoint survives a continue), and of the calls that document 02 adds.
 //!
 //! It is written from the papers alone and shares nothing with the product. The stub lives in a
 //! [`Stub`]; memory and the register area are lent to every step. A step is refused by a
@@ -11,6 +11,7 @@
 mod book;
 mod condition;
 mod event;
+mod image;
 mod list;
 mod message;
 mod program;
@@ -21,6 +22,7 @@ mod window;
 pub use book::{Book, Claim, Condition, Evaluation, Planted};
 pub use condition::{depth, Element, Elements};
 pub use event::Verdict;
+pub use image::{differences, NotCompared, Run, LONGEST_IMAGE};
 pub use list::List;
 pub use message::{read, state_text, write, Message, Reason};
 pub use program::{body_length, Output, Session};

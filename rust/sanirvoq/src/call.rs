@@ -1,8 +1,9 @@
 //! The calls into the archive: the crate's only unsafe code. A step called so answers as the archive
 //! does, in one number; [`Stub`](crate::Stub) answers with enums.
 
-use crate::ffi::{self, Fields, Found, Target};
+use crate::ffi::{self, Comparison, Fields, Found, Run, Target};
 use crate::{BLOCK, MESSAGE};
+use core::slice;
 
 /// The archive's six steps.
 #[derive(Debug, Clone, Copy, PartialEq, Eq)]
@@ -129,4 +130,28 @@ pub(crate) fn read(bytes: &[u8]) -> Found {
     // SAFETY: The pointer is valid for reading the length: both come from one `&`, and the function
     // takes it as `const`. It always returns, does not unwind and keeps no pointer.
     unsafe { ffi::sanirvoq_read(bytes.as_ptr(), bytes.len()) }
+}
+
+/// Where two images differ, in a list of two numbers a run; answers as the archive does.
+pub fn image_differences(a: &[u8], b: &[u8], list: &mut [u32]) -> Comparison {
+    // SAFETY: Each pointer and its length come from one reference; the two `&` are taken as `const`,
+    // and nobody else has what the `&mut` lends. The function always returns, does not unwind and
+    // keeps no pointer.
+    unsafe {
+        ffi::sanirvoq_image_differences(
+            a.as_ptr(),
+            a.len(),
+            b.as_ptr(),
+            b.len(),
+            list.as_mut_ptr(),
+            list.len(),
+        )
+    }
+}
+
+/// A list of runs as the archive takes it.
+pub(crate) fn numbers(list: &mut [Run]) -> &mut [u32] {
+    // SAFETY: A run is two `u32` and nothing else (asserted in `ffi`), so the memory of the list is
+    // that of twice as many numbers, which the result borrows in its place. Any numbers are runs.
+    unsafe { slice::from_raw_parts_mut(list.as_mut_ptr().cast(), 2 * list.len()) }
 }

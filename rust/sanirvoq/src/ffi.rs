@@ -124,10 +124,34 @@ pub struct Found {
     pub fields: Fields,
 }
 
+/// A maximal run of differing bytes: two numbers of the archive's list.
+#[repr(C)]
+#[derive(Debug, Clone, Copy, Default, PartialEq, Eq, Hash)]
+pub struct Run {
+    /// The offset of its first byte.
+    pub start: u32,
+    /// How many bytes.
+    pub length: u32,
+}
+
+/// What comparing two images answers.
+#[repr(C)]
+#[derive(Debug, Clone, Copy, Default, PartialEq, Eq)]
+pub struct Comparison {
+    /// 0, 8 or 9.
+    pub number: u8,
+    /// How many runs there are, unless the number is 8; then 0.
+    pub runs: u32,
+}
+
 // The layout, as the header asserts it.
 const _: () = assert!(size_of::<Target>() == 1324 && align_of::<Target>() == 4);
 const _: () = assert!(offset_of!(Target, table) == 68);
 const _: () = assert!(size_of::<Fields>() == 20);
+const _: () = assert!(size_of::<Comparison>() == 8);
+// Two numbers and nothing else.
+const _: () = assert!(size_of::<Run>() == 2 * size_of::<u32>());
+const _: () = assert!(align_of::<Run>() == align_of::<u32>());
 
 /// The arguments and the result of every step, once.
 macro_rules! steps {
@@ -173,4 +197,13 @@ unsafe extern "C" {
     pub fn sanirvoq_write(fields: Fields, buffer: *mut u8, length: usize) -> u8;
     /// Reads ten bytes.
     pub fn sanirvoq_read(bytes: *const u8, length: usize) -> Found;
+    /// Fills a list with the runs of differing bytes of two images, two places a run.
+    pub fn sanirvoq_image_differences(
+        a: *const u8,
+        a_length: usize,
+        b: *const u8,
+        b_length: usize,
+        list: *mut u32,
+        places: usize,
+    ) -> Comparison;
 }

@@ -41,10 +41,13 @@
 pub mod call;
 #[allow(unsafe_code)]
 pub mod ffi;
+mod image;
 mod message;
 mod refusal;
 mod stub;
 
+pub use ffi::Run;
+pub use image::{differences, NotCompared};
 pub use message::{read, write, Message, Reason};
 pub use refusal::Refusal;
 pub use stub::{Served, Stub, Verdict};
@@ -53,3 +56,5 @@ pub use stub::{Served, Stub, Verdict};
 pub const MESSAGE: usize = 10;
 /// The bytes of one process in the register area: 32 registers, status, pc, four bytes each.
 pub const BLOCK: usize = 136;
+/// The bytes of the longest image that [`differences`] takes.
+pub const IMAGE: usize = 65_536;
