@@ -1,9 +1,9 @@
 -- What is promised of writing and reading packets. Assumes nothing.
-use mathlib.Core.Path.{_≡_, refl, sym, ap, _∙_}
+use mathlib.Core.Path.{_≡_, refl, sym}
 use mathlib.Core.Bool.{Bool, true, false, cond}
 use mathlib.Core.List.{List, _++_}
 use mathlib.Core.Logic.{_↔_}
-use Prim.Native.Nat.{ℕ, _<_, _≤_}
+use Prim.Native.Nat.{ℕ}
 use native.Mathlib.Omega.{arith}
 use borrow.Author.Tests.{lt-ltb, le-ltb, ltb-true, ltb-false}
 use lib.Dec.{ltb}
@@ -15,9 +15,6 @@ use Rattle.text_packet.specs.Packet.{textMost, isPacket, textOf}
 use Rattle.text_packet.specs.Write.{Written, written, writing, filledWith, writeOf}
 use Rattle.text_packet.specs.declared.Packet.{Packet}
 use Rattle.text_packet.proofs.Texts.{text-most}
-use Rattle.text_packet_read.specs.Read.{readOf}
-use Rattle.text_packet_read.specs.declared.Reading.the-variants.{Accepted}
-use Rattle.text_packet_laws.specs.Fits.{Fits}
 use Rattle.text_packet_laws.specs.Form.{PacketForm}
 use Rattle.text_packet_laws.specs.Claims.{Writes, Packets}
 use Rattle.text_packet_laws.proofs.PacketForms.{reads-form}

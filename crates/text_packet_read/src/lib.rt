@@ -59,7 +59,7 @@ fn hex_value(s: &[u8]) -> u32
 }
 
 // The first byte, or 0 where there is none.
-fn front(s: &[u8]) -> u8
+pub fn front(s: &[u8]) -> u8
     ensures { λ r. ⌜ r ≡ getD (now (s .entry)) 0 0 ⌝ }
 {
     if 0 < s.len() { s[0] } else { 0 }
