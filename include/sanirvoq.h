@@ -99,8 +99,10 @@ enum sanirvoq_number {
     SANIRVOQ_STOPPED = 5,  /* a trap or state event of a Stopped process, or a state event with value 8 */
     SANIRVOQ_NO_SITE = 6,  /* a trap whose pc is at no breakpoint */
     SANIRVOQ_NO_MESSAGE = 7,
-    SANIRVOQ_IMAGES = 8,  /* images of unequal length, or longer than SANIRVOQ_IMAGE */
-    SANIRVOQ_RUN_LIST = 9 /* a list that lacks room for the runs of differing bytes */
+    SANIRVOQ_IMAGES = 8,      /* images of unequal length, or longer than SANIRVOQ_IMAGE */
+    SANIRVOQ_RUN_LIST = 9,    /* a list that lacks room for the runs of differing bytes */
+    SANIRVOQ_NO_PACKET = 10,  /* a letter that no text packet has, or bytes that are no packet's text */
+    SANIRVOQ_TEXT_BUFFER = 11 /* a buffer shorter than SANIRVOQ_TEXT */
 };
 
 /* What every step returns: the number in the lowest byte, then the three bytes of the answer. Where the number is not
@@ -264,6 +266,44 @@ SANIRVOQ_ASSERT(sizeof(struct sanirvoq_comparison) == 8, "the size of a comparis
  * the list is apart from both. */
 struct sanirvoq_comparison sanirvoq_image_differences(const uint8_t *a, size_t a_length, const uint8_t *b,
                                                       size_t b_length, uint32_t *list, size_t places);
+
+/* ---- packets of the text dialect; need no record ---- */
+
+enum { SANIRVOQ_TEXT = 34 }; /* bytes of the longest text, which a buffer must have */
+
+/* Four fields: PID LETTER ADDR DATA, or a reply's PID LETTER ERRFLG RESPONSE. letter: 0x21 to 0x7e. third: the address
+ * or the error flag. fourth: the data or the response. */
+struct sanirvoq_text_packet {
+    uint32_t pid;
+    uint8_t letter;
+    uint32_t third;
+    uint32_t fourth;
+};
+
+/* number: 0, 10 or 11. filled: the bytes of the text; 0 where the number is not 0. */
+struct sanirvoq_text_written {
+    uint8_t number;
+    uint32_t filled;
+};
+
+/* number: 0 or 10. packet: where the number is not 0, its fields are all 0. */
+struct sanirvoq_text_found {
+    uint8_t number;
+    struct sanirvoq_text_packet packet;
+};
+
+SANIRVOQ_ASSERT(sizeof(struct sanirvoq_text_packet) == 16, "the size of a text packet");
+SANIRVOQ_ASSERT(sizeof(struct sanirvoq_text_written) == 8, "the size of what writing a text packet answers");
+SANIRVOQ_ASSERT(sizeof(struct sanirvoq_text_found) == 20, "the size of what reading a text packet answers");
+
+/* Writes a packet's one text to the front of the buffer. Other places stay, and where the number is not 0 all do: 11
+ * where the buffer is shorter than SANIRVOQ_TEXT, whatever the text's length, else 10 where no packet has the letter.
+ * Nothing is put behind the text, no zero byte either. */
+struct sanirvoq_text_written sanirvoq_text_write(struct sanirvoq_text_packet packet, uint8_t *buffer, size_t length);
+
+/* Reads the packet whose text these bytes are: 0x and lower-case hex digits without leading zeros for a number, one
+ * blank between fields, nothing after. Other bytes are number 10. */
+struct sanirvoq_text_found sanirvoq_text_read(const uint8_t *bytes, size_t length);
 
 #ifdef __cplusplus
 }

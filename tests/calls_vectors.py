@@ -2,7 +2,8 @@
 """Make the stored input and the expected output of the program calls_main.
 
 calls_main reads calls that need no session and writes what each answers; the
-format is that of docs/CALLS.md. Kind 1 compares two images.
+format is that of docs/CALLS.md. Kind 1 compares two images; the calls of the
+text packets, kinds 6 and 7, are made by tests/text_vectors.py.
 
     python3 tests/calls_vectors.py           write crates/calls_main/stdin, stdout
     python3 tests/calls_vectors.py --check   compare with them, write nothing
@@ -18,6 +19,7 @@ import sys
 from pathlib import Path
 
 import stored
+import text_vectors
 
 FOLDER = Path(__file__).resolve().parent.parent / "crates" / "calls_main"
 DIFFERENCES = 1
@@ -195,15 +197,15 @@ def make_files():
     """The two files, by path, and what they are."""
     cases = [*directed(), *scattered()]
     answers = [comparison(*case) for case in cases]
+    texts = list(text_vectors.cases())
     cut = call(image(8), image(8), 2)[:-1]
     files = {
-        FOLDER / "stdin": b"".join(call(*case) for case in cases) + cut,
-        FOLDER / "stdout": b"".join(answer(*one) for one in answers),
+        FOLDER / "stdin": b"".join([*(call(*case) for case in cases), *(made for made, _ in texts), cut]),
+        FOLDER / "stdout": b"".join([*(answer(*one) for one in answers), *(given for _, given in texts)]),
     }
-    numbers = [number for number, _, _ in answers]
-    counts = ", ".join(f"{numbers.count(number)} number {number}"
-                       for number in (ACCEPTED, WRONG_IMAGES, SHORT_LIST))
-    return files, f"{len(cases)} calls and a cut one: {counts}"
+    numbers = [number for number, _, _ in answers] + [given[0] for _, given in texts]
+    counts = ", ".join(f"{numbers.count(number)} number {number}" for number in sorted(set(numbers)))
+    return files, f"{len(numbers)} calls and a cut one: {counts}"
 
 
 if __name__ == "__main__":

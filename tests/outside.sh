@@ -66,6 +66,10 @@ images_c() {
     c11 -O2 -Iinclude tests/image_differences.c "$library" -o "$logs/images_c" && under_valgrind "$logs/images_c"
 }
 
+texts_c() {
+    c11 -O2 -Iinclude tests/text_packets.c "$library" -o "$logs/texts_c" && under_valgrind "$logs/texts_c"
+}
+
 example_rust() {
     crate run sanirvoq --example kernel > "$logs/kernel_rust.txt" &&
         diff examples/kernel.txt "$logs/kernel_rust.txt"
@@ -81,6 +85,7 @@ check example_c_valgrind under_valgrind "$logs/kernel_c"
 check example_rust example_rust
 check examples_equal diff "$logs/kernel_c.txt" "$logs/kernel_rust.txt"
 check images_c images_c
+check texts_c texts_c
 check wrapper tests_of sanirvoq
 check reference tests_of reference
 check steps tests_of steps

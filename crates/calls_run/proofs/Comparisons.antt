@@ -8,11 +8,12 @@ use lib.ListN.{length, take, set, length-append, length-take}
 use lib.Seq.{sets, length-take-le}
 use Rattle.common.specs.Bytes.{highFirst}
 use Rattle.common.specs.Numbers.{accepted, wrongImages}
+use Rattle.common.proofs.Stores.{sets-append}
 use Rattle.image_diff.specs.declared.Comparison.{Comparison}
 use Rattle.image_diff.specs.Answer.{compared}
 use Rattle.calls_run.specs.Format.{wordBytes, listHeld, answerMost, wordsOf, comparisonBytes}
 use Rattle.calls_run.specs.Written.{Writes}
-use Rattle.calls_run.proofs.Words.{length-word, length-words, sets-append, writes-front}
+use Rattle.calls_run.proofs.Words.{length-word, length-words, writes-front}
 
 module _ (c : Comparison) (list before after : List ℕ) (room : answerMost ≤ length before) where
   -- the number, and the number with a count

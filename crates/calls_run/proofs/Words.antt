@@ -1,13 +1,14 @@
 -- Numbers stored one after the other, four bytes each, and bytes stored at the front of a buffer. Assumes nothing.
-use mathlib.Core.Path.{_≡_, refl, sym, ap, _∙_}
-use mathlib.Core.List.{List, [], _∷_, _++_}
-use Prim.Native.Nat.{ℕ, zero, suc, _+_, _*_, _<_, _≤_}
+use mathlib.Core.Path.{_≡_, refl, sym, _∙_}
+use mathlib.Core.List.{List, [], _∷_}
+use Prim.Native.Nat.{ℕ, _+_, _*_, _<_, _≤_}
 use native.Mathlib.Nat.{zero-add}
 use native.Mathlib.Numerals.{add-one}
 use native.Mathlib.Omega.{arith}
-use lib.ListN.{length, getD, drop, set, length-append, drop-of-length-le}
+use lib.ListN.{length, getD, drop, length-append, drop-of-length-le}
 use lib.Seq.{sets, sets-eq, drop-cons}
 use Rattle.common.specs.Bytes.{lowFirst, highFirst}
+use Rattle.common.proofs.Stores.{sets-append}
 use Rattle.calls_run.specs.Format.{wordBytes, wordsOf}
 use Rattle.calls_run.specs.Written.{Writes}
 
@@ -24,12 +25,6 @@ length-words (x ∷ xs) =
     length-append (highFirst wordBytes x) (wordsOf xs) ∙ rw (length-word x, length-words xs) (omega arith)
 
 -- ---- stores, one after the other
-
-pub sets-append : (l : List ℕ) (i : ℕ) (xs ys : List ℕ) → sets l i (xs ++ ys) ≡ sets (sets l i xs) (i + length xs) ys
-sets-append l i [] ys = let z : i + 0 ≡ i = omega arith in rw z
-sets-append l i (x ∷ xs) ys =
-    let z : i + suc (length xs) ≡ suc i + length xs = omega arith in
-    sets-append (set l i x) (suc i) xs ys ∙ rw z
 
 -- one number more of a list
 pub word-more : (all out : List ℕ) (at k : ℕ) (l : List ℕ) → k < length l

@@ -50,7 +50,7 @@ pub struct Answered {
 }
 
 // Stores a number as four bytes, high-order first.
-fn put(out: &mut [u8], at: usize, v: u32)
+pub fn put(out: &mut [u8], at: usize, v: u32)
     requires { ⌜ at + wordBytes ≤ length (now out) ⌝ }
     ensures { λ _. ⌜ now (out .exit) ≡ sets (now (out .entry)) at (highFirst wordBytes v) ⌝ }
 {

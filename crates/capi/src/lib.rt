@@ -6,6 +6,9 @@
 use image_diff::Comparison;
 use step::StepKind;
 use target::Target;
+use text_packet::Packet;
+use text_packet::Writing;
+use text_packet_read::FoundPacket;
 use wire_fields::Fields;
 use wire_fields::Found;
 ghost use mathlib.Core.Path.{_≡_};
@@ -16,6 +19,8 @@ ghost use Rattle.capi_results.specs.Seen.{seen, seenOf, setupFrom};
 ghost use Rattle.rules.specs.Outcome.{world};
 ghost use Rattle.rules.specs.Step.{requestOf, trapOf, scheduleOf, stateOf, restartOf};
 ghost use Rattle.step.specs.Kinds.{leaving};
+ghost use Rattle.text_packet.specs.Write.{written as textWritten, writeOf as writeText};
+ghost use Rattle.text_packet_read.specs.Read.{foundBy as foundText, readOf as readText};
 ghost use Rattle.wire.specs.Codec.{written, readOf};
 
 #[no_mangle]
@@ -150,4 +155,20 @@ pub extern "C" fn sanirvoq_image_differences(a: &[u8], b: &[u8], list: &mut [u32
         ≡ differencesOf (now (a .entry)) (now (b .entry)) (now (list .entry)) ⌝ }
 {
     image_diff::differences(a, b, list)
+}
+
+// Writes the text of a packet of the text dialect.
+#[no_mangle]
+pub extern "C" fn sanirvoq_text_write(packet: Packet, buffer: &mut [u8]) -> Writing
+    ensures { λ r. ⌜ textWritten r (now (buffer .exit)) ≡ writeText packet (now (buffer .entry)) ⌝ }
+{
+    text_packet::write(packet, buffer)
+}
+
+// Reads the packet of a text.
+#[no_mangle]
+pub extern "C" fn sanirvoq_text_read(bytes: &[u8]) -> FoundPacket
+    ensures { λ r. ⌜ r ≡ foundText (readText (now (bytes .entry))) ⌝ }
+{
+    text_packet_read::find(bytes)
 }

@@ -41,3 +41,11 @@ wrongImages = 8
 -- 02, One: the lent list of runs "lacks room"
 abbrev pub shortRunList : ℕ
 shortRunList = 9
+
+-- 02, Three: "bytes that are no such packet"
+abbrev pub noPacket : ℕ
+noPacket = 10
+
+-- 02, Three: "a reply buffer under 34 bytes"
+abbrev pub shortText : ℕ
+shortText = 11

@@ -4,7 +4,7 @@ ghost use mathlib.Core.Path.{_≡_};
 ghost use mathlib.Core.List.{_∷_, []};
 ghost use Prim.Native.Nat.{_+_, _<_, _≤_, min};
 ghost use lib.ListN.{length};
-ghost use lib.Seq.{paste};
+ghost use lib.Seq.{paste, sets};
 ghost use Rattle.common.specs.Bytes.{ofHighFirst, wordAt};
 ghost use Rattle.common.specs.Same.{sameList, allZero};
 
@@ -28,6 +28,10 @@ pub const NO_MESSAGE: u8 = 7;
 pub const WRONG_IMAGES: u8 = 8;
 
 pub const SHORT_RUN_LIST: u8 = 9;
+
+pub const NO_PACKET: u8 = 10;
+
+pub const SHORT_TEXT: u8 = 11;
 
 // A byte in four. Its contract carries the bound that a product needs.
 fn wide(x: u8) -> u32
@@ -95,4 +99,18 @@ pub fn copy(dst: &mut [u8], src: &[u8])
         dst[i] = src[i];
         i += 1;
     }
+}
+
+// Stores bytes from a place of the buffer on, and says which place is next.
+pub fn put(buffer: &mut [u8], at: usize, bytes: &[u8]) -> usize
+    requires { ⌜ at + length (now bytes) ≤ length (now buffer) ⌝ }
+    ensures { λ r. ⌜ r ≡ at + length (now (bytes .entry)) ⌝ }
+    ensures { λ _. ⌜ now (buffer .exit) ≡ sets (now (buffer .entry)) at (now (bytes .entry)) ⌝ }
+{
+    let mut i: usize = 0;
+    while i < bytes.len() {
+        buffer[at + i] = bytes[i];
+        i += 1;
+    }
+    at + i
 }

@@ -31,7 +31,7 @@ pub fn reason_place(text: [u8; 9]) -> usize
 }
 
 // The value of a lower-case hex digit; of another character, of no account.
-fn digit_value(c: u8) -> u8
+pub fn digit_value(c: u8) -> u8
     ensures { λ r. ⌜ (r ≡ digitValue c) × (r < 16) ⌝ }
 {
     (c % 16 + 9 * (c / 64)) % 16

@@ -8,6 +8,7 @@
 //! - [`pair`]: runs one [`op::Op`] on both sides and compares; what is compared when is said there
 //! - [`book`]: the book of demand 3 beside a session
 //! - [`images`]: image differences, a call without a session: pairs, both sides, counts
+//! - [`texts`]: text packets, calls without a session: packets and damaged texts, both sides, counts
 //! - [`make`]: makes the lists, from a seed; the steps of a session come from `rust/steps`
 //! - [`tally`]: counts what was reached, besides what `rust/steps` counts
 //! - [`run`] and [`shrink`]: the whole run, and the short list where the sides differ
@@ -27,3 +28,4 @@ pub mod record;
 pub mod run;
 pub mod shrink;
 pub mod tally;
+pub mod texts;

@@ -1,14 +1,16 @@
 //! `compare [--seed N] [--steps N]` runs the proved stub and the independent one on the same steps,
-//! and for every twenty steps image differences of both on a pair of images. It prints what was
-//! reached; its last line is `N steps, no difference`. Where the sides differ it prints the shortest
-//! list of steps, or a short pair of images, that shows it and what both have then.
+//! for every twenty steps image differences of both on a pair of images, and for every other step a
+//! text packet, written or read. It prints what was reached; its last line is `N steps, no
+//! difference`. Where the sides differ it prints the shortest list of steps, or a short pair of
+//! images, or the packet, that shows it and what both have then.
 
 #![forbid(unsafe_code)]
 
 use compare::archive::archive;
 use compare::images;
 use compare::run::Runner;
-use sanirvoq::call::image_differences;
+use compare::texts::{self, Calls};
+use sanirvoq::call::{image_differences, text_read, text_write};
 use std::process::ExitCode;
 use std::time::{Duration, Instant};
 
@@ -16,6 +18,8 @@ use std::time::{Duration, Instant};
 const ALL_REACHED: u64 = 200_000;
 /// To one pair of images.
 const STEPS_A_PAIR: u64 = 20;
+/// To one text packet.
+const STEPS_A_TEXT: u64 = 2;
 /// Between two lines on standard error.
 const PAUSE: Duration = Duration::from_secs(3);
 
@@ -69,8 +73,16 @@ fn main() -> ExitCode {
             return ExitCode::FAILURE;
         }
     };
-    print!("{}\n{}", runner.tally.table(), compared.table());
-    let lacking = [runner.tally.lacking(), compared.lacking()].concat();
+    let calls = Calls { write: text_write, read: text_read };
+    let packets = match texts::run(calls, seed, steps / STEPS_A_TEXT) {
+        Ok(packets) => packets,
+        Err(failure) => {
+            print!("seed {seed}: the sides differ on\n{failure}");
+            return ExitCode::FAILURE;
+        }
+    };
+    print!("{}\n{}\n{}", runner.tally.table(), compared.table(), packets.table());
+    let lacking = [runner.tally.lacking(), compared.lacking(), packets.lacking()].concat();
     if steps >= ALL_REACHED && !lacking.is_empty() {
         for name in lacking {
             println!("never reached: {name}");

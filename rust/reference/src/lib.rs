@@ -17,6 +17,7 @@ mod message;
 mod program;
 mod record;
 mod request;
+mod text;
 mod window;
 
 pub use book::{Book, Claim, Condition, Evaluation, Planted};
@@ -27,6 +28,7 @@ pub use list::List;
 pub use message::{read, state_text, write, Message, Reason};
 pub use program::{body_length, Output, Session};
 pub use record::{fit, Breakpoint, Draft, Process, Refusal, Stub};
+pub use text::{read_text, write_text, NotText, TextPacket, LONGEST_TEXT};
 
 /// The bytes of a message, of a request and of a reply.
 pub const MESSAGE: usize = 10;

@@ -2,6 +2,7 @@
 //! does, in one number; [`Stub`](crate::Stub) answers with enums.
 
 use crate::ffi::{self, Comparison, Fields, Found, Run, Target};
+use crate::ffi::{TextFound, TextPacket, TextWritten};
 use crate::{BLOCK, MESSAGE};
 use core::slice;
 
@@ -154,4 +155,18 @@ pub(crate) fn numbers(list: &mut [Run]) -> &mut [u32] {
     // SAFETY: A run is two `u32` and nothing else (asserted in `ffi`), so the memory of the list is
     // that of twice as many numbers, which the result borrows in its place. Any numbers are runs.
     unsafe { slice::from_raw_parts_mut(list.as_mut_ptr().cast(), 2 * list.len()) }
+}
+
+/// Writes a text packet; answers as the archive does.
+pub fn text_write(packet: TextPacket, buffer: &mut [u8]) -> TextWritten {
+    // SAFETY: The pointer and the length come from one reference, and nobody else has what it lends.
+    // The function always returns, does not unwind and keeps no pointer.
+    unsafe { ffi::sanirvoq_text_write(packet, buffer.as_mut_ptr(), buffer.len()) }
+}
+
+/// Reads a text packet; answers as the archive does.
+pub fn text_read(bytes: &[u8]) -> TextFound {
+    // SAFETY: The pointer and the length come from one reference, taken as `const`. The function
+    // always returns, does not unwind and keeps no pointer.
+    unsafe { ffi::sanirvoq_text_read(bytes.as_ptr(), bytes.len()) }
 }

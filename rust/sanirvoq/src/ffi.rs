@@ -144,11 +144,47 @@ pub struct Comparison {
     pub runs: u32,
 }
 
+/// A packet of the text dialect: `PID LETTER ADDR DATA`, or a reply's `PID LETTER ERRFLG RESPONSE`.
+#[repr(C)]
+#[derive(Debug, Clone, Copy, Default, PartialEq, Eq, Hash)]
+pub struct TextPacket {
+    /// The process of a request; a reply repeats it.
+    pub pid: u32,
+    /// One byte, 0x21 to 0x7e.
+    pub letter: u8,
+    /// The address of a request, the error flag of a reply.
+    pub third: u32,
+    /// The data of a request, the response of a reply.
+    pub fourth: u32,
+}
+
+/// What writing a text packet answers.
+#[repr(C)]
+#[derive(Debug, Clone, Copy, Default, PartialEq, Eq)]
+pub struct TextWritten {
+    /// 0, 10 or 11.
+    pub number: u8,
+    /// The bytes of the text; 0 where the number is not 0.
+    pub filled: u32,
+}
+
+/// What reading a text packet answers.
+#[repr(C)]
+#[derive(Debug, Clone, Copy, Default, PartialEq, Eq)]
+pub struct TextFound {
+    /// 0 or 10.
+    pub number: u8,
+    /// Its fields are 0 where the number is not 0.
+    pub packet: TextPacket,
+}
+
 // The layout, as the header asserts it.
 const _: () = assert!(size_of::<Target>() == 1324 && align_of::<Target>() == 4);
 const _: () = assert!(offset_of!(Target, table) == 68);
 const _: () = assert!(size_of::<Fields>() == 20);
 const _: () = assert!(size_of::<Comparison>() == 8);
+const _: () = assert!(size_of::<TextPacket>() == 16 && align_of::<TextPacket>() == 4);
+const _: () = assert!(size_of::<TextWritten>() == 8 && size_of::<TextFound>() == 20);
 // Two numbers and nothing else.
 const _: () = assert!(size_of::<Run>() == 2 * size_of::<u32>());
 const _: () = assert!(align_of::<Run>() == align_of::<u32>());
@@ -206,4 +242,8 @@ unsafe extern "C" {
         list: *mut u32,
         places: usize,
     ) -> Comparison;
+    /// Writes a text packet to the front of a buffer.
+    pub fn sanirvoq_text_write(packet: TextPacket, buffer: *mut u8, length: usize) -> TextWritten;
+    /// Reads a text packet.
+    pub fn sanirvoq_text_read(bytes: *const u8, length: usize) -> TextFound;
 }

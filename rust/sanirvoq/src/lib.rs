@@ -45,12 +45,14 @@ mod image;
 mod message;
 mod refusal;
 mod stub;
+mod text;
 
-pub use ffi::Run;
+pub use ffi::{Run, TextPacket};
 pub use image::{differences, NotCompared};
 pub use message::{read, write, Message, Reason};
 pub use refusal::Refusal;
 pub use stub::{Served, Stub, Verdict};
+pub use text::{read_text, write_text, NotText};
 
 /// The bytes of a message, of a request and of a reply.
 pub const MESSAGE: usize = 10;
@@ -58,3 +60,5 @@ pub const MESSAGE: usize = 10;
 pub const BLOCK: usize = 136;
 /// The bytes of the longest image that [`differences`] takes.
 pub const IMAGE: usize = 65_536;
+/// The bytes of the longest text of a packet, which the buffer of [`write_text`] must have.
+pub const TEXT: usize = 34;
