@@ -2,9 +2,13 @@
 //! how large its code is.
 //!
 //!     cargo run --release --offline --manifest-path rust/bench/Cargo.toml -- [--quick] [--only TEXT]
+//!
+//! With `--instructions` it counts instructions in the place of times, by valgrind; with `--turns N`
+//! it does so many turns of each and prints nothing.
 
 mod cases;
 mod proved;
+mod reads;
 mod report;
 mod rust_stub;
 mod side;
@@ -12,43 +16,54 @@ mod size;
 mod stack;
 mod timing;
 mod work;
+mod worker;
 
 use cases::{cases, Case};
+use reads::Reads;
 use report::Row;
 use std::io::{self, Write};
 use std::process::ExitCode;
 use timing::{Plan, Timing};
+use worker::Worker;
 
 const WINDOWS: [u32; 2] = [64, 65_536];
 /// Many short rounds rather than few long ones: the two sides of a round are then close in time.
 const FULL: Plan = Plan { rounds: 45, batch: 500_000 };
 const QUICK: Plan = Plan { rounds: 3, batch: 50_000 };
 
+/// What the program does with what was chosen.
+enum Mode {
+    Time(Plan),
+    /// Counts instructions.
+    Count,
+    /// So many turns of each, for whoever counts.
+    Turns(u64),
+}
+
 struct Options {
-    quick: bool,
-    /// Only cases with this in their name.
+    mode: Mode,
+    /// Only cases and ways of reading with this in their label.
     only: String,
 }
 
 fn options(mut arguments: impl Iterator<Item = String>) -> Result<Options, String> {
-    let mut options = Options { quick: false, only: String::new() };
+    let mut options = Options { mode: Mode::Time(FULL), only: String::new() };
     while let Some(argument) = arguments.next() {
         match argument.as_str() {
-            "--quick" => options.quick = true,
+            "--quick" => options.mode = Mode::Time(QUICK),
+            "--instructions" => options.mode = Mode::Count,
+            "--turns" => {
+                let turns = arguments.next().and_then(|number| number.parse().ok());
+                options.mode = Mode::Turns(turns.ok_or("--turns needs a number")?);
+            }
             "--only" => options.only = arguments.next().ok_or("--only needs a text")?,
-            _ => return Err(format!("{argument}: the options are --quick and --only TEXT")),
+            _ => {
+                let known = "--quick, --instructions, --turns N and --only TEXT";
+                return Err(format!("{argument}: the options are {known}"));
+            }
         }
     }
     Ok(options)
-}
-
-fn selected(only: &str) -> Result<Vec<Case>, String> {
-    let all = cases(&WINDOWS).into_iter();
-    let chosen: Vec<Case> = all.filter(|case| case.name.contains(only)).collect();
-    if chosen.is_empty() {
-        return Err(format!("no case has '{only}' in its name"));
-    }
-    Ok(chosen)
 }
 
 fn timed(cases: &[Case], plan: &Plan) -> Vec<Row> {
@@ -79,21 +94,79 @@ fn speed(out: &mut impl Write, cases: &[Case], plan: &Plan) -> io::Result<()> {
     writeln!(out, "{}", report::growth(&rows).unwrap_or_default())
 }
 
-fn run(options: &Options) -> Result<(), String> {
-    let cases = selected(&options.only)?;
-    let plan = if options.quick { QUICK } else { FULL };
+/// The ways of reading beside each other. The first of a scene is the stub's.
+fn reads(out: &mut impl Write, mut ways: Vec<Worker>, plan: &Plan) -> io::Result<()> {
+    writeln!(out, "Reads of nine bytes by themselves, eight breakpoints, a window of 64 bytes:\n")?;
+    let taken = timing::beside(&mut ways, plan);
+    writeln!(out, "{}", report::reads_heading())?;
+    let mut straight = &taken[0];
+    for (way, taken) in ways.iter().zip(&taken) {
+        if way.label.ends_with(reads::STRAIGHT) {
+            straight = taken;
+        }
+        writeln!(out, "{}", report::reads_line(&way.label, taken, straight))?;
+    }
+    writeln!(out)
+}
+
+fn rest(out: &mut impl Write, cases: &[Case]) -> Result<(), String> {
     let (table, text) = size::text()?;
-    let mut out = io::stdout().lock();
     let stack = "Deepest stack, in bytes from the return address down, over the cases above:";
     let size = format!("Size of the archive: {text} bytes of text (code and read-only data):");
-    speed(&mut out, &cases, &plan)
-        .and_then(|()| writeln!(out, "{stack}\n\n{}", report::stacks(&stack::depths(&cases))))
+    writeln!(out, "{stack}\n\n{}", report::stacks(&stack::depths(cases)))
         .and_then(|()| write!(out, "{size}\n\n{table}"))
-        .map_err(|error| format!("standard output: {error}"))
+        .map_err(output)
+}
+
+fn output(error: io::Error) -> String {
+    format!("standard output: {error}")
+}
+
+fn time(cases: &[Case], ways: Vec<Worker>, plan: &Plan) -> Result<(), String> {
+    let mut out = io::stdout().lock();
+    if !ways.is_empty() {
+        reads(&mut out, ways, plan).map_err(output)?;
+    }
+    if cases.is_empty() {
+        return Ok(());
+    }
+    speed(&mut out, cases, plan).map_err(output)?;
+    rest(&mut out, cases)
+}
+
+fn count(workers: &[Worker]) -> Result<(), String> {
+    println!("Instructions of a turn with the loop around it, by callgrind:\n");
+    for Worker { label, .. } in workers {
+        println!("{}", report::instructions_line(label, worker::instructions(label)?));
+    }
+    Ok(())
+}
+
+fn run(Options { mode, only }: Options) -> Result<(), String> {
+    let (reads, mut cases) = (Reads::new(), cases(&WINDOWS));
+    let mut ways = reads.workers();
+    ways.retain(|way| way.label.contains(&only));
+    let none = format!("no case has '{only}' in its name");
+    if let Mode::Time(plan) = mode {
+        cases.retain(|case| case.label().contains(&only));
+        return if cases.is_empty() && ways.is_empty() {
+            Err(none)
+        } else {
+            time(&cases, ways, &plan)
+        };
+    }
+    let mut workers = worker::of_cases(&cases, &only);
+    workers.append(&mut ways);
+    match mode {
+        _ if workers.is_empty() => return Err(none),
+        Mode::Turns(turns) => workers.iter_mut().for_each(|worker| (worker.turns)(turns)),
+        _ => count(&workers)?,
+    }
+    Ok(())
 }
 
 fn main() -> ExitCode {
-    match options(std::env::args().skip(1)).and_then(|options| run(&options)) {
+    match options(std::env::args().skip(1)).and_then(run) {
         Ok(()) => ExitCode::SUCCESS,
         Err(message) => {
             eprintln!("bench: {message}");

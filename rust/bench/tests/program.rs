@@ -38,8 +38,36 @@ fn a_quick_run_prints_every_table() {
 }
 
 #[test]
+fn a_quick_run_of_the_reads_prints_every_way() {
+    let output = bench(&["--quick", "--only", "read 9"]);
+    assert!(output.status.success(), "{}", text(&output.stderr));
+    let rows = &block(text(&output.stdout), "way of reading ")[1..];
+    assert_eq!(rows.len(), 7, "{rows:#?}");
+    for row in rows {
+        let figures: Vec<f64> = row.split_whitespace().flat_map(str::parse).collect();
+        let [.., ns, ratio] = figures[..] else { panic!("{row}") };
+        assert!(ns > 0.0 && ratio > 0.0, "{row}");
+        assert!(!row.contains("straight") || ratio == 1.0, "{row}");
+    }
+}
+
+#[test]
+fn turns_print_nothing() {
+    for only in ["read 9, no site, straight", "Tmget 9, no site, full, 64, Rust"] {
+        let output = bench(&["--turns", "10", "--only", only]);
+        assert!(output.status.success() && output.stdout.is_empty(), "{output:?}");
+    }
+}
+
+#[test]
 fn what_it_does_not_know_is_refused() {
-    for arguments in [&["--slow"][..], &["--only"], &["--only", "no such case"]] {
+    for arguments in [
+        &["--slow"][..],
+        &["--only"],
+        &["--only", "no such case"],
+        &["--turns", "1", "--only", "no such case"],
+        &["--turns", "many"],
+    ] {
         let output = bench(arguments);
         assert!(!output.status.success() && output.stdout.is_empty(), "{arguments:?}");
         assert!(text(&output.stderr).starts_with("bench: "), "{arguments:?}");
