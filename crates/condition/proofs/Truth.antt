@@ -3,11 +3,16 @@ use mathlib.Core.Path.{_≡_, refl, sym, ap, _∙_}
 use mathlib.Core.Bool.{Bool, true, false, _&&_, _||_}
 use mathlib.Core.List.{List, [], _∷_}
 use Prim.Native.Nat.{ℕ, _+_, _-_, _<_, _≤_}
-use borrow.Author.Tests.{ne-eqb, le-leb, lt-leb}
+use native.Mathlib.Nat.{add-zero}
+use native.Mathlib.Omega.{arith}
+use borrow.Author.Tests.{ne-eqb, le-leb, lt-leb, lt-ltb}
 use lib.ListN.{length, getD, take, drop}
 use Rattle.common.specs.Bytes.{ofHighFirst}
 use Rattle.memory.specs.Head.{house}
 use Rattle.memory.specs.Overlay.{plainAt}
+use Rattle.memory.specs.Write.{plainRead, partRead}
+use Rattle.memory.proofs.Parts.{part-window}
+use Rattle.common.proofs.Tab.{tab-at}
 use Rattle.target.specs.declared.Element.{Element}
 use Rattle.target.specs.Fresh.{noElement}
 use Rattle.condition.specs.Evaluate.{top, rest, flag, truth, joinOf, isOutside, wordOf, escapes, stackAfter}
@@ -126,10 +131,29 @@ module _ (sites plain mem : List ℕ) (base a : ℕ) where
   unfolding fetchOf
   fetch-above h k = rw (le-leb base a h, lt-leb (a - base + 4) (length mem) k)
 
-  pub fetch-word : (b0 b1 b2 b3 w : ℕ) → base ≤ a → a - base + 4 ≤ length mem
-      → b0 ≡ plainAt 2 sites plain mem (a - base) → b1 ≡ plainAt 2 sites plain mem (a - base + 1)
-      → b2 ≡ plainAt 2 sites plain mem (a - base + 2) → b3 ≡ plainAt 2 sites plain mem (a - base + 3)
-      → w ≡ ofHighFirst (b3 ∷ b2 ∷ b1 ∷ b0 ∷ []) → Word w ≡ fetchOf house sites plain mem base a
+  -- byte j of a read of the four bytes
+  read-byte : (b : List ℕ) → a - base + 4 ≤ length mem
+      → b ≡ partRead 2 sites plain (take 4 (drop (a - base) mem)) (a - base) 9
+      → (j : ℕ) → j < 4 → getD b j 0 ≡ plainAt 2 sites plain mem (a - base + j)
+  unfolding plainRead
+  read-byte b k e j h =
+      rw (e, part-window 2 sites plain mem (a - base) 4 9 k) (tab-at 9 _ 0 j (omega arith) ∙ rw (lt-ltb j 4 h))
+
+  pub fetch-read : (b : List ℕ) (w : ℕ) → base ≤ a → a - base + 4 ≤ length mem
+      → b ≡ partRead 2 sites plain (take (a - base + 4 - (a - base)) (drop (a - base) mem)) (a - base) 9
+      → w ≡ ofHighFirst (getD b 3 0 ∷ getD b 2 0 ∷ getD b 1 0 ∷ getD b 0 0 ∷ [])
+      → Word w ≡ fetchOf house sites plain mem base a
   unfolding fetchOf ofHighFirst
-  fetch-word b0 b1 b2 b3 w h k p q r s e =
-      rw (le-leb base a h, le-leb (a - base + 4) (length mem) k, ← p, ← q, ← r, ← s) (ap Word e)
+  fetch-read b w h k e q =
+      let four : a - base + 4 - (a - base) ≡ 4 = omega arith in
+      let byte = read-byte b k (rw four at e) in
+      let first : getD b 0 0 ≡ plainAt 2 sites plain mem (a - base) = byte 0 (omega arith) ∙ rw add-zero in
+      rw (
+        le-leb base a h,
+        le-leb (a - base + 4) (length mem) k,
+        ← first,
+        ← byte 1 (omega arith),
+        ← byte 2 (omega arith),
+        ← byte 3 (omega arith),
+      )
+      (ap Word q)

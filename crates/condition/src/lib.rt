@@ -132,15 +132,13 @@ pub fn fetch(
     if a < base {
         return Fetched::Outside;
     }
-    let at = (a - base) as usize;
-    if mem.len() < at + 4 {
+    let at = a - base;
+    let from = at as usize;
+    if mem.len() < from + 4 {
         return Fetched::Outside;
     }
-    let b0 = memory::plain_at(mem, sites, plain, at);
-    let b1 = memory::plain_at(mem, sites, plain, at + 1);
-    let b2 = memory::plain_at(mem, sites, plain, at + 2);
-    let b3 = memory::plain_at(mem, sites, plain, at + 3);
-    Fetched::Word(common::word(b3, b2, b1, b0))
+    let b = memory_read::read(&mem[from..from + 4], sites, plain, at);
+    Fetched::Word(common::word(b[3], b[2], b[1], b[0]))
 }
 
 // What an element puts on the stack, where y is the top and x the value below it; or a read outside the window.

@@ -22,7 +22,7 @@ use Rattle.memory.specs.declared.Place.the-variants.{Registers, Window, 
 use Rattle.memory.specs.Place.{placeOf}
 use Rattle.memory.specs.Write.{writtenAt, memAfter, offsetOf, plainAfter}
 use Rattle.memory.proofs.Slots.{slot-covers}
-use Rattle.memory.proofs.Bytes.{length-plain, plain-at, no-traps, laid-one}
+use Rattle.memory.proofs.Bytes.{length-plain, plain-at, no-traps, laid-one, byteOver}
 use Rattle.memory.proofs.Bytes.{written-in, written-before, written-after, written-none, afterAt, after-at}
 use Rattle.memory.proofs.Bytes.{place-of-offset}
 
@@ -146,24 +146,27 @@ module _ (w : ℕ) (sites plain : List ℕ) (at : ℕ) where
 -- ---- one slot laid over the others
 
 -- the first slot decides, then the others
-module _ (w s : ℕ) (sites plain mem : List ℕ) (i : ℕ) where
-  plain-head : plainAt w (s ∷ sites) plain mem i
-      ≡ cond (eqb (siteOver w i) s) (getD plain (i % w) 0) (plainAt w sites (drop w plain) mem i)
-  unfolding plainAt covered slotOf firstOf
-  plain-head = by (eqb (siteOver w i) s)
+module _ (w s : ℕ) (sites plain : List ℕ) (i old : ℕ) where
+  pub byte-head : byteOver w (s ∷ sites) plain i old
+      ≡ cond (eqb (siteOver w i) s) (getD plain (i % w) 0) (byteOver w sites (drop w plain) i old)
+  unfolding covered slotOf firstOf
+  byte-head = by (eqb (siteOver w i) s)
     where
       n : ℕ
       n = slotOf w sites i
 
       by : (b : Bool) →
-          cond (ltb (cond b 0 (suc n)) (suc (length sites))) (getD plain (cond b 0 (suc n) * w + i % w) 0)
-          (getD mem i 0)
-          ≡ cond b (getD plain (i % w) 0) (cond (ltb n (length sites)) (getD (drop w plain) (n * w + i % w) 0)
-          (getD mem i 0))
+          cond (ltb (cond b 0 (suc n)) (suc (length sites))) (getD plain (cond b 0 (suc n) * w + i % w) 0) old
+          ≡ cond b (getD plain (i % w) 0) (cond (ltb n (length sites)) (getD (drop w plain) (n * w + i % w) 0) old)
       by true = rw (lt-ltb 0 (suc (length sites)) (omega arith)) (ap (λ (x : ℕ). getD plain x 0) (omega arith))
       by false =
           let e : w + (n * w + i % w) ≡ suc n * w + i % w = omega (arith, suc-mul n w) in
           rw (leb·suc-suc (suc n) (length sites), getD-drop w plain (n * w + i % w) 0, e)
+
+plain-head : (w s : ℕ) (sites plain mem : List ℕ) (i : ℕ) → plainAt w (s ∷ sites) plain mem i
+    ≡ cond (eqb (siteOver w i) s) (getD plain (i % w) 0) (plainAt w sites (drop w plain) mem i)
+unfolding plainAt
+plain-head w s sites plain mem i = byte-head w s sites plain i (getD mem i 0)
 
 -- without slots plain memory is memory
 pub plain-past : (w : ℕ) (sites plain mem : List ℕ) (k : ℕ) → length sites ≤ k → mem ≡ plainOf w (drop k sites) plain

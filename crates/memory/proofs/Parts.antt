@@ -56,7 +56,7 @@ abbrev pub partAt : ℕ → List ℕ → List ℕ → List ℕ → ℕ → ℕ �
 partAt w sites plain part at j = byteOver w sites plain (at + j) (getD part j 0)
 
 -- of a part of the window it is the plain byte
-part-window : (w : ℕ) (sites plain mem : List ℕ) (at n m : ℕ) → at + n ≤ length mem
+pub part-window : (w : ℕ) (sites plain mem : List ℕ) (at n m : ℕ) → at + n ≤ length mem
     → partRead w sites plain (take n (drop at mem)) at m ≡ plainRead w sites plain mem at n m
 unfolding partRead plainRead plainAt
 part-window w sites plain mem at n m h =

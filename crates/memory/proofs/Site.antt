@@ -22,7 +22,7 @@ module _ (w : ℕ) where
       omega arith
 
   -- a site is a multiple of the trap's length
-  site-multiple : (i : ℕ) → siteOver w i ≡ i / w * w
+  pub site-multiple : (i : ℕ) → siteOver w i ≡ i / w * w
   unfolding siteOver
   site-multiple i = omega (arith, div-add-mod' i w)
 

@@ -1,4 +1,4 @@
-// The window under traps: reads and writes of plain bytes, and laying bytes over a site.
+// The window under traps: plain bytes, writes, and laying bytes over a site. Reads of stretches are in `memory_read`.
 //
 // Everything goes by offset into the window. A table of breakpoints is given by two small arrays: the slots' sites,
 // where a free slot has the odd site 1, and the slots' plain bytes, two for each slot.
@@ -8,7 +8,7 @@ ghost use mathlib.Core.List.{_∷_, []};
 ghost use Prim.Native.Nat.{_+_, _≤_};
 ghost use lib.ListN.{length};
 ghost use Rattle.memory.specs.Overlay.{slotOf, plainAt, plainOf, laidOver};
-ghost use Rattle.memory.specs.Write.{partRead, memAfter, plainAfter};
+ghost use Rattle.memory.specs.Write.{memAfter, plainAfter};
 
 // The trap, c.ebreak, as it stands in memory.
 pub const TRAP_FIRST: u8 = 0x02;
@@ -60,36 +60,6 @@ pub fn plain_at(
         return mem[at];
     }
     0
-}
-
-// The bytes of a part of the window that lies at an offset, those under traps plain, then zeros.
-pub fn read(
-    part: &[u8],
-    sites: &[u32; Table::ENTRIES],
-    plain: &[u8; Table::PLAIN],
-    at: u32,
-) -> [u8; 9]
-    ensures { λ r. ⌜ r ≡ partRead 2 (now (sites .entry)) (now (plain .entry)) (now (part .entry)) at 9 ⌝ }
-{
-    let all = &sites[..];
-    let kept = &plain[..];
-    let from = at as usize;
-    let mut out: [u8; 9] = [0; 9];
-    let mut j: usize = 0;
-    while j < 9 {
-        if j == part.len() {
-            return out;
-        }
-        let i = from + j;
-        let slot = slot_of(sites, i);
-        if slot < all.len() {
-            out[j] = kept[2 * slot + i % 2];
-        } else {
-            out[j] = part[j];
-        }
-        j += 1;
-    }
-    out
 }
 
 // Writes a stretch: each byte to memory or, under a trap, to the slot's plain bytes.

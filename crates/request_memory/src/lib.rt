@@ -121,7 +121,7 @@ pub fn mget<'a>(t: Target, s: Scan, mem: &'a [u8], regs: &'a [u8], addr: u32, n:
         Place::Window => {
             let sites = s.sites;
             let plain = s.plain;
-            rmget(memory::read(part, &sites, &plain, addr - t.base))
+            rmget(memory_read::read(part, &sites, &plain, addr - t.base))
         }
         Place::Nowhere => rerr(Reason::Inval),
     }

@@ -83,6 +83,11 @@ impl Case {
         self
     }
 
+    /// Name, table and window: no two cases have the same.
+    pub fn label(&self) -> String {
+        format!("{}, {}, {}", self.name, self.fill.name(), self.window)
+    }
+
     /// A stub as it stands before the first turn.
     fn prepared<S: Side>(&self) -> S {
         let mut side = S::new(self.window);
@@ -199,17 +204,17 @@ fn tcondbreak(letter: u8, val: u32) -> Request {
 
 /// Sites apart from each other. The second term keeps those of a large window out of one set of
 /// the cache, where 4,096 bytes between them would put them all.
-fn apart(window: u32, i: u32) -> u32 {
+pub fn apart(window: u32, i: u32) -> u32 {
     BASE + i * (window / 16 + window / 1_024)
 }
 
 /// Neighbouring sites, from the middle of the window on.
-fn together(window: u32, i: u32) -> u32 {
+pub fn together(window: u32, i: u32) -> u32 {
     BASE + window / 2 + 2 * i
 }
 
 /// Where nine bytes meet none of these sites.
-fn clear(window: u32) -> u32 {
+pub fn clear(window: u32) -> u32 {
     BASE + window / 4 * 3
 }
 
@@ -240,7 +245,7 @@ fn planted(id: u32, elements: &[(u8, u32)], site: u32) -> Vec<Request> {
 }
 
 /// So many breakpoints of four elements at these sites.
-fn standing(count: u32, window: u32, sites: fn(u32, u32) -> u32) -> Vec<Request> {
+pub fn standing(count: u32, window: u32, sites: fn(u32, u32) -> u32) -> Vec<Request> {
     (0..count).flat_map(|i| planted(i, &four(OTHER), sites(window, i))).collect()
 }
 

@@ -3,14 +3,15 @@
 //!
 //!     cargo run --release --offline --manifest-path rust/bench/Cargo.toml -- [--quick] [--only TEXT]
 //!
-//! With `--instructions` it prints instead what image differences take in instructions, which
-//! valgrind counts over runs of this program with `--calls SIDE COUNT`.
+//! With `--instructions` it counts instructions in the place of times, by valgrind, which runs this
+//! program with `--turns N` (so many turns of each) or `--calls SIDE N` (so many image differences).
 
 mod cases;
 mod cmp;
 mod count;
 mod images;
 mod proved;
+mod reads;
 mod report;
 mod rust_stub;
 mod side;
@@ -18,67 +19,64 @@ mod size;
 mod stack;
 mod timing;
 mod work;
+mod worker;
 
 use cases::{cases, Case};
 use images::{Side, Sides};
+use reads::Reads;
 use report::Row;
 use std::io::{self, Write};
 use std::process::ExitCode;
 use timing::{Plan, Timing};
+use worker::Worker;
 
 const WINDOWS: [u32; 2] = [64, 65_536];
 /// Many short rounds rather than few long ones: the two sides of a round are then close in time.
 const FULL: Plan = Plan { rounds: 45, batch: 500_000 };
 const QUICK: Plan = Plan { rounds: 3, batch: 50_000 };
 
+/// What the program does with what was chosen.
+enum Mode {
+    Time(Plan),
+    /// Counts instructions.
+    Count,
+    /// So many turns of each, for whoever counts.
+    Turns(u64),
+    /// So many calls of one side on the images of each case, for whoever counts.
+    Calls(Side, u64),
+}
+
 struct Options {
-    quick: bool,
-    /// Only cases with this in their name.
+    mode: Mode,
+    /// Only cases and ways of reading with this in their label.
     only: String,
-    instructions: bool,
-    /// So many calls of one side on the images of each case, and nothing else.
-    calls: Option<(Side, u64)>,
 }
 
 fn options(mut arguments: impl Iterator<Item = String>) -> Result<Options, String> {
-    let mut options =
-        Options { quick: false, only: String::new(), instructions: false, calls: None };
+    let mut options = Options { mode: Mode::Time(FULL), only: String::new() };
     while let Some(argument) = arguments.next() {
         match argument.as_str() {
-            "--quick" => options.quick = true,
-            "--only" => options.only = arguments.next().ok_or("--only needs a text")?,
-            "--instructions" => options.instructions = true,
+            "--quick" => options.mode = Mode::Time(QUICK),
+            "--instructions" => options.mode = Mode::Count,
+            "--turns" => {
+                let turns = arguments.next().and_then(|number| number.parse().ok());
+                options.mode = Mode::Turns(turns.ok_or("--turns needs a number")?);
+            }
             "--calls" => {
                 let name = arguments.next().unwrap_or_default();
                 let side = Side::ALL.into_iter().find(|side| side.name() == name);
                 let count = arguments.next().and_then(|count| count.parse().ok());
-                let calls = side.zip(count).ok_or("--calls needs a side and a count")?;
-                options.calls = Some(calls);
+                let (side, count) = side.zip(count).ok_or("--calls needs a side and a count")?;
+                options.mode = Mode::Calls(side, count);
             }
+            "--only" => options.only = arguments.next().ok_or("--only needs a text")?,
             _ => {
-                return Err(format!(
-                    "{argument}: the options are --quick, --only TEXT, --instructions"
-                ))
+                let known = "--quick, --instructions, --turns N and --only TEXT";
+                return Err(format!("{argument}: the options are {known}"));
             }
         }
     }
     Ok(options)
-}
-
-/// The cases of steps and of images that are wanted.
-struct Selected {
-    steps: Vec<Case>,
-    images: Vec<&'static images::Case>,
-}
-
-fn selected(only: &str) -> Result<Selected, String> {
-    let steps = cases(&WINDOWS).into_iter().filter(|case| case.name.contains(only));
-    let images = images::CASES.iter().filter(|case| case.name.contains(only));
-    let chosen = Selected { steps: steps.collect(), images: images.collect() };
-    if chosen.steps.is_empty() && chosen.images.is_empty() {
-        return Err(format!("no case has '{only}' in its name"));
-    }
-    Ok(chosen)
 }
 
 fn timed(cases: &[Case], plan: &Plan) -> Vec<Row> {
@@ -109,19 +107,22 @@ fn speed(out: &mut impl Write, cases: &[Case], plan: &Plan) -> io::Result<()> {
     writeln!(out, "{}", report::growth(&rows).unwrap_or_default())
 }
 
-fn steps(out: &mut impl Write, cases: &[Case], plan: &Plan) -> io::Result<()> {
-    if cases.is_empty() {
-        return Ok(());
+/// The ways of reading beside each other. The first of a scene is the stub's.
+fn reads(out: &mut impl Write, mut ways: Vec<Worker>, plan: &Plan) -> io::Result<()> {
+    writeln!(out, "Reads of nine bytes by themselves, eight breakpoints, a window of 64 bytes:\n")?;
+    let taken = timing::beside(&mut ways, plan);
+    writeln!(out, "{}", report::reads_heading())?;
+    let mut straight = &taken[0];
+    for (way, taken) in ways.iter().zip(&taken) {
+        if way.label.ends_with(reads::STRAIGHT) {
+            straight = taken;
+        }
+        writeln!(out, "{}", report::reads_line(&way.label, taken, straight))?;
     }
-    speed(out, cases, plan)?;
-    let stack = "Deepest stack, in bytes from the return address down, over the cases above:";
-    writeln!(out, "{stack}\n\n{}", report::stacks(&stack::depths(cases)))
+    writeln!(out)
 }
 
 fn images(out: &mut impl Write, cases: &[&images::Case], plan: &Plan) -> io::Result<()> {
-    if cases.is_empty() {
-        return Ok(());
-    }
     writeln!(
         out,
         "Image differences of 65,536 bytes, microseconds a call: the median of {} rounds, and of their\n\
@@ -137,29 +138,81 @@ fn images(out: &mut impl Write, cases: &[&images::Case], plan: &Plan) -> io::Res
     writeln!(out)
 }
 
-fn run(options: &Options) -> Result<(), String> {
-    let chosen = selected(&options.only)?;
-    if let Some((side, count)) = options.calls {
-        chosen.images.iter().for_each(|case| Sides::new(case).calls(side, count));
-        return Ok(());
-    }
-    if options.instructions {
-        let table = count::table(&chosen.images).map_err(|error| error.to_string())?;
-        println!("Instructions of a call on images of 65,536 bytes:\n\n{table}");
-        return Ok(());
-    }
-    let plan = if options.quick { QUICK } else { FULL };
-    let (table, text) = size::text()?;
+fn output(error: io::Error) -> String {
+    format!("standard output: {error}")
+}
+
+fn time(chosen: Chosen, plan: &Plan) -> Result<(), String> {
+    let Chosen { steps, images: pairs, ways } = chosen;
     let mut out = io::stdout().lock();
+    if !ways.is_empty() {
+        reads(&mut out, ways, plan).map_err(output)?;
+    }
+    if !steps.is_empty() {
+        speed(&mut out, &steps, plan).map_err(output)?;
+        let stack = "Deepest stack, in bytes from the return address down, over the cases above:";
+        let depths = report::stacks(&stack::depths(&steps));
+        writeln!(out, "{stack}\n\n{depths}").map_err(output)?;
+    }
+    if !pairs.is_empty() {
+        images(&mut out, &pairs, plan).map_err(output)?;
+    }
+    let (table, text) = size::text()?;
     let size = format!("Size of the archive: {text} bytes of text (code and read-only data):");
-    steps(&mut out, &chosen.steps, &plan)
-        .and_then(|()| images(&mut out, &chosen.images, &plan))
-        .and_then(|()| write!(out, "{size}\n\n{table}"))
-        .map_err(|error| error.to_string())
+    write!(out, "{size}\n\n{table}").map_err(output)
+}
+
+/// The instructions of a turn of each worker, and of a call on the images of each case.
+fn count(workers: &[Worker], pairs: &[&images::Case]) -> Result<(), String> {
+    if !workers.is_empty() {
+        println!("Instructions of a turn with the loop around it, by callgrind:\n");
+    }
+    for Worker { label, .. } in workers {
+        println!("{}", report::instructions_line(label, worker::instructions(label)?));
+    }
+    if !pairs.is_empty() {
+        let table = count::table(pairs).map_err(|error| error.to_string())?;
+        println!("Instructions of a call on images of 65,536 bytes:\n\n{table}");
+    }
+    Ok(())
+}
+
+/// The cases of steps and of images and the ways of reading that are wanted.
+struct Chosen<'a> {
+    steps: Vec<Case>,
+    images: Vec<&'static images::Case>,
+    ways: Vec<Worker<'a>>,
+}
+
+fn run(Options { mode, only }: Options) -> Result<(), String> {
+    let (reads, mut steps) = (Reads::new(), cases(&WINDOWS));
+    let mut ways = reads.workers();
+    ways.retain(|way| way.label.contains(&only));
+    let images: Vec<_> = images::CASES.iter().filter(|case| case.name.contains(&only)).collect();
+    let none = format!("no case has '{only}' in its name");
+    if let Mode::Time(plan) = mode {
+        steps.retain(|case| case.label().contains(&only));
+        return if steps.is_empty() && images.is_empty() && ways.is_empty() {
+            Err(none)
+        } else {
+            time(Chosen { steps, images, ways }, &plan)
+        };
+    }
+    let mut workers = worker::of_cases(&steps, &only);
+    workers.append(&mut ways);
+    if workers.is_empty() && images.is_empty() {
+        return Err(none);
+    }
+    match mode {
+        Mode::Turns(turns) => workers.iter_mut().for_each(|worker| (worker.turns)(turns)),
+        Mode::Calls(side, n) => images.iter().for_each(|case| Sides::new(case).calls(side, n)),
+        _ => count(&workers, &images)?,
+    }
+    Ok(())
 }
 
 fn main() -> ExitCode {
-    match options(std::env::args().skip(1)).and_then(|options| run(&options)) {
+    match options(std::env::args().skip(1)).and_then(run) {
         Ok(()) => ExitCode::SUCCESS,
         Err(message) => {
             eprintln!("bench: {message}");

@@ -85,6 +85,19 @@ pub fn growth(rows: &[Row]) -> Option<String> {
     Some(format!("window of {large} against {small} bytes: at most {factor:.2} times ({place})\n"))
 }
 
+pub fn reads_heading() -> String {
+    format!("{:<44}{:>8}{:>14}", "way of reading", "ns", "of straight")
+}
+
+/// A way of reading, and the times of the straight way of its scene.
+pub fn reads_line(label: &str, taken: &[f64], straight: &[f64]) -> String {
+    format!("{label:<44}{:>8.1}{:>14.2}", median(taken), median_ratio(taken, straight))
+}
+
+pub fn instructions_line(label: &str, count: f64) -> String {
+    format!("{label:<60}{count:>8.0}")
+}
+
 pub fn stacks(depths: &[Depth]) -> String {
     let line = |depth: &Depth| {
         let symbol = format!("sanirvoq_step_{}", depth.step.name());

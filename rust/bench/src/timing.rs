@@ -5,6 +5,7 @@ use crate::proved::{Direct, Proved};
 use crate::rust_stub::RustStub;
 use crate::side::Side;
 use crate::work::{run, Work};
+use crate::worker::Worker;
 
 pub struct Plan {
     pub rounds: usize,
@@ -57,6 +58,19 @@ fn now() -> u64 {
     time.seconds as u64 * 1_000_000_000 + time.nanoseconds as u64
 }
 
+/// Times a batch; one that is too short is done again with twice the turns. What a turn took.
+fn timed(turns: &mut u64, least: u64, mut batch: impl FnMut(u64)) -> f64 {
+    loop {
+        let start = now();
+        batch(*turns);
+        let taken = now() - start;
+        if taken >= least {
+            return taken as f64 / *turns as f64;
+        }
+        *turns *= 2;
+    }
+}
+
 /// Times each work in turn, in every round; which is first changes from round to round. Gives what
 /// a turn of each took in each round, in nanoseconds.
 pub fn in_turn<S, const N: usize>(
@@ -68,25 +82,11 @@ pub fn in_turn<S, const N: usize>(
     let mut rounds = [const { Vec::new() }; N];
     for round in 0..WARM_UP + plan.rounds {
         for k in (0..N).map(|k| (k + round) % N) {
-            rounds[k].push(loop {
-                let start = now();
-                (0..turns[k]).for_each(|_| works[k](side));
-                let taken = now() - start;
-                if taken >= plan.batch {
-                    break taken as f64 / turns[k] as f64;
-                }
-                turns[k] *= 2;
-            });
+            let batch = |count| (0..count).for_each(|_| works[k](side));
+            rounds[k].push(timed(&mut turns[k], plan.batch, batch));
         }
     }
     rounds.map(|all| all[WARM_UP..].to_vec())
-}
-
-/// What so many turns take.
-fn batch(side: &mut impl Side, work: &Work, turns: u64) -> u64 {
-    let start = now();
-    run(side, work, turns, |_, _| ());
-    now() - start
 }
 
 /// One kind of work on one side: the turns of a batch, and what a turn took in each round.
@@ -101,15 +101,9 @@ impl<'a> Series<'a> {
         Self { work, turns: 1, rounds: Vec::new() }
     }
 
-    /// Times a batch; one that is too short is done again with twice the turns.
     fn round(&mut self, side: &mut impl Side, least: u64) {
-        loop {
-            let taken = batch(side, self.work, self.turns);
-            if taken >= least {
-                return self.rounds.push(taken as f64 / self.turns as f64);
-            }
-            self.turns *= 2;
-        }
+        let Self { work, turns, rounds } = self;
+        rounds.push(timed(turns, least, |turns| run(side, work, turns, |_, _| ())));
     }
 }
 
@@ -191,6 +185,21 @@ pub fn times(cases: &[Case], plan: &Plan) -> Vec<Timing> {
     pairs.iter().map(Pair::timing).collect()
 }
 
+/// Times the workers beside each other: what a turn of each took in each round. Which one is first
+/// changes from round to round.
+pub fn beside(workers: &mut [Worker], plan: &Plan) -> Vec<Vec<f64>> {
+    let count = workers.len();
+    let mut turns = vec![1; count];
+    let mut taken = vec![Vec::new(); count];
+    for round in 0..WARM_UP + plan.rounds {
+        for i in (0..count).map(|i| (round + i) % count) {
+            let turn = timed(&mut turns[i], plan.batch, &mut workers[i].turns);
+            taken[i].extend((round >= WARM_UP).then_some(turn));
+        }
+    }
+    taken
+}
+
 pub fn median(values: &[f64]) -> f64 {
     let mut values = values.to_vec();
     values.sort_by(f64::total_cmp);
@@ -206,6 +215,7 @@ pub fn median(values: &[f64]) -> f64 {
 mod tests {
     use super::*;
     use crate::cases::cases;
+    use std::hint::black_box;
 
     #[test]
     fn the_median_is_the_middle() {
@@ -226,6 +236,22 @@ mod tests {
         pair.round(0, 50_000);
         let Series { turns, rounds, .. } = &pair.rust.work;
         assert!(rounds[0] * *turns as f64 >= 50_000.0, "{turns} turns of {} ns", rounds[0]);
+    }
+
+    #[test]
+    fn workers_are_timed_in_every_round_and_the_longer_one_takes_longer() {
+        let worker = |label: &str, each: u64| {
+            let turns = move |turns| {
+                for i in 0..turns * each {
+                    black_box(i);
+                }
+            };
+            Worker { label: label.to_string(), turns: Box::new(turns) }
+        };
+        let mut workers = [worker("short", 10), worker("long", 1_000)];
+        let taken = beside(&mut workers, &Plan { rounds: 5, batch: 100_000 });
+        assert!(taken.iter().all(|rounds| rounds.len() == 5), "{taken:?}");
+        assert!(median_ratio(&taken[1], &taken[0]) > 5.0, "{taken:?}");
     }
 
     #[test]

@@ -38,6 +38,28 @@ fn a_quick_run_prints_every_table() {
 }
 
 #[test]
+fn a_quick_run_of_the_reads_prints_every_way() {
+    let output = bench(&["--quick", "--only", "read 9"]);
+    assert!(output.status.success(), "{}", text(&output.stderr));
+    let rows = &block(text(&output.stdout), "way of reading ")[1..];
+    assert_eq!(rows.len(), 7, "{rows:#?}");
+    for row in rows {
+        let figures: Vec<f64> = row.split_whitespace().flat_map(str::parse).collect();
+        let [.., ns, ratio] = figures[..] else { panic!("{row}") };
+        assert!(ns > 0.0 && ratio > 0.0, "{row}");
+        assert!(!row.contains("straight") || ratio == 1.0, "{row}");
+    }
+}
+
+#[test]
+fn turns_print_nothing() {
+    for only in ["read 9, no site, straight", "Tmget 9, no site, full, 64, Rust"] {
+        let output = bench(&["--turns", "10", "--only", only]);
+        assert!(output.status.success() && output.stdout.is_empty(), "{output:?}");
+    }
+}
+
+#[test]
 fn images_have_a_table_of_their_own() {
     let output = bench(&["--quick", "--only", "images"]);
     assert!(output.status.success(), "{}", text(&output.stderr));
@@ -66,8 +88,14 @@ fn instructions_are_the_same_in_every_run() {
 
 #[test]
 fn what_it_does_not_know_is_refused() {
-    let calls = ["--calls", "nobody", "1"];
-    for arguments in [&["--slow"][..], &["--only"], &["--only", "no such case"], &calls] {
+    for arguments in [
+        &["--slow"][..],
+        &["--only"],
+        &["--only", "no such case"],
+        &["--turns", "1", "--only", "no such case"],
+        &["--turns", "many"],
+        &["--calls", "nobody", "1"],
+    ] {
         let output = bench(arguments);
         assert!(!output.status.success() && output.stdout.is_empty(), "{arguments:?}");
         assert!(text(&output.stderr).starts_with("bench: "), "{arguments:?}");

@@ -1,5 +1,5 @@
--- `memory::read` meets its contract. The loop's invariant: the first j bytes are the part's, those under traps plain,
--- the others zeros. Assumes nothing.
+-- `bench_read::by_bytes` meets its contract. The loop's invariant: the first j bytes are the part's, those under traps
+-- plain, the others zeros. Assumes nothing.
 use mathlib.Core.Path.{_≡_, refl, sym, ap, _∙_}
 use mathlib.Core.Logic.{⊎-elim}
 use Prim.Native.Nat.{_+_, _-_, _<_, _≤_}
@@ -8,13 +8,13 @@ use native.Mathlib.Omega.{arith}
 use borrow.Author.Needs.{needs}
 use denote.Ref.{now}
 use lib.ListN.{length, getD, length-set}
 use Rattle.memory.specs.Write.{partRead}
 use Rattle.common.proofs.Fill.{filled, fill-none, fill-more, fill-whole}
 use Rattle.memory.proofs.Slots.{slot-covers, slot-none}
 use Rattle.memory.proofs.Bytes.{byte-under, byte-bare}
 use Rattle.memory.proofs.Parts.{partAt}
-use Rattle.memory.proofs.read.Statement.{statement}
-use Rattle.memory.proofs.read.Tie as tie
+use Rattle.bench_read.proofs.by_bytes.Statement.{statement}
+use Rattle.bench_read.proofs.by_bytes.Tie as tie
 
 abbrev Inv-loop : tie.InvT-loop
 Inv-loop part sites plain at all kept from out₀ j₀ out j =
@@ -102,8 +102,8 @@ returns-2 c =
     let o = c .before .loop .inv in
     o .6 ∙ fill-whole _ _ _ 9 (omega arith) ∙ sym (fill-whole _ _ _ 9 (omega arith))
 
-pub read-spec : {M : Type 1} → statement M
-read-spec =
+pub by-bytes-spec : {M : Type 1} → statement M
+by-bytes-spec =
     tie.close
     (tie.spec
     Inv-loop
