@@ -41,3 +41,7 @@ wrongImages = 8
 -- 02, One: the lent list of runs "lacks room"
 abbrev pub shortRunList : ℕ
 shortRunList = 9
+
+-- 02, Nine: "A body buffer under 534 bytes, a reply's not 26, or a sequence past its field"
+abbrev pub wrongFrame : ℕ
+wrongFrame = 12

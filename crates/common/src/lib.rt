@@ -29,6 +29,8 @@ pub const WRONG_IMAGES: u8 = 8;
 
 pub const SHORT_RUN_LIST: u8 = 9;
 
+pub const WRONG_FRAME: u8 = 12;
+
 // A byte in four. Its contract carries the bound that a product needs.
 fn wide(x: u8) -> u32
     ensures { λ r. ⌜ (r ≡ x) × (r < 256) ⌝ }
