@@ -1,13 +1,13 @@
--- 002, "Packet Format": bit stuffing. "The data is treated as a stream of bits and is broken into seven-bit chunks. Each
--- chunk is put into the seven low-order bits of a byte and the high order bit of the byte is set. The bitstuffed data is
--- padded at the end with zero bits to the next byte boundary." Bits go most significant first.
+-- 002, "Packet Format": bit stuffing. "The data is treated as a stream of bits and is broken into seven-bit chunks.
+-- Each chunk is put into the seven low-order bits of a byte and the high order bit of the byte is set. The bitstuffed
+-- data is padded at the end with zero bits to the next byte boundary." Bits go most significant first.
 use Prim.Native.Nat.{ℕ, _+_, _*_, _/_, _%_}
 use mathlib.Core.Bool.{Bool, not, cond, _&&_}
 use mathlib.Core.List.{List, [], _∷_}
 use lib.Dec.{leb, eqb}
 
--- Bytes to stuffed bytes. held: the bits that no stuffed byte has yet, at the high end of seven; the next byte's bits go
--- below them once multiplied by scale, which is 64, 32, .. 1.
+-- Bytes to stuffed bytes. held: the bits that no stuffed byte has yet, at the high end of seven; the next byte's bits
+-- go below them once multiplied by scale, which is 64, 32, .. 1.
 unfoldable pub stuffedFrom : ℕ → ℕ → List ℕ → List ℕ
 stuffedFrom scale held [] = cond (eqb scale 64) [] ((128 + held % 128) ∷ [])
 stuffedFrom scale held (b ∷ bs) =

@@ -1,5 +1,5 @@
-// Packets of source document 002: a reader's record, its answers, and the checksum. What a packet is, and what a byte of
-// the line does to a reader, stands in specs/.
+// Packets of source document 002: a reader's record, its answers, and the checksum. What a packet is, and what a byte
+// of the line does to a reader, stands in specs/.
 ghost use mathlib.Core.Path.{_≡_};
 ghost use Rattle.frame.specs.Checksum.{summed};
 ghost use Rattle.frame.specs.Reader.{fresh, begun};
@@ -9,9 +9,7 @@ pub const BEGIN: u8 = 0x1d;
 
 pub const END: u8 = 0x1e;
 
-// The longest body, and the shortest buffer that a reader takes: the longest body and its checksum.
-pub const BODY_MOST: u16 = 532;
-
+// The shortest buffer that a reader takes: the longest body and its checksum.
 pub const BUFFER_LEAST: usize = 534;
 
 // The bytes of a message, of a reply's packet, and of a header without its checksum.

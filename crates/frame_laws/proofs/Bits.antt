@@ -45,7 +45,8 @@ pub again : (n : ℕ) → (128 + n % 128) % 128 ≡ (128 + n) % 128
 again n = omega arith
 
 -- the last stuffed byte: as if a zero came
-pub last : {w m : ℕ} → Position w m → (x : ℕ) → x < 256 → (x / (m / 2) * (m / 2) + (128 + x * (w * 2) % 128) % 128 * m / 256) % 256 ≡ x
+pub last : {w m : ℕ} → Position w m → (x : ℕ) → x < 256
+    → (x / (m / 2) * (m / 2) + (128 + x * (w * 2) % 128) % 128 * m / 256) % 256 ≡ x
 last first x h = omega arith
 last second x h = omega arith
 last third x h = omega arith
@@ -67,11 +68,16 @@ mutual
   reads [] bs fourth x h = rw (again (x * 8 % 128), last fourth x h)
   reads [] bs fifth x h = rw (again (x * 4 % 128), last fifth x h)
   reads [] bs sixth x h = rw (again (x * 2 % 128), last sixth x h)
-  reads (b ∷ l) bs first x h = let g = given first x b h (bs .0) in rw (again (both 32 x b), g .0, g .1) (ap (λ (r : List ℕ). x ∷ r) (reads l (bs .1) second b (bs .0)))
-  reads (b ∷ l) bs second x h = let g = given second x b h (bs .0) in rw (again (both 16 x b), g .0, g .1) (ap (λ (r : List ℕ). x ∷ r) (reads l (bs .1) third b (bs .0)))
-  reads (b ∷ l) bs third x h = let g = given third x b h (bs .0) in rw (again (both 8 x b), g .0, g .1) (ap (λ (r : List ℕ). x ∷ r) (reads l (bs .1) fourth b (bs .0)))
-  reads (b ∷ l) bs fourth x h = let g = given fourth x b h (bs .0) in rw (again (both 4 x b), g .0, g .1) (ap (λ (r : List ℕ). x ∷ r) (reads l (bs .1) fifth b (bs .0)))
-  reads (b ∷ l) bs fifth x h = let g = given fifth x b h (bs .0) in rw (again (both 2 x b), g .0, g .1) (ap (λ (r : List ℕ). x ∷ r) (reads l (bs .1) sixth b (bs .0)))
+  reads (b ∷ l) bs first x h = let g = given first x b h (bs .0) in
+      rw (again (both 32 x b), g .0, g .1) (ap (λ (r : List ℕ). x ∷ r) (reads l (bs .1) second b (bs .0)))
+  reads (b ∷ l) bs second x h = let g = given second x b h (bs .0) in
+      rw (again (both 16 x b), g .0, g .1) (ap (λ (r : List ℕ). x ∷ r) (reads l (bs .1) third b (bs .0)))
+  reads (b ∷ l) bs third x h = let g = given third x b h (bs .0) in
+      rw (again (both 8 x b), g .0, g .1) (ap (λ (r : List ℕ). x ∷ r) (reads l (bs .1) fourth b (bs .0)))
+  reads (b ∷ l) bs fourth x h = let g = given fourth x b h (bs .0) in
+      rw (again (both 4 x b), g .0, g .1) (ap (λ (r : List ℕ). x ∷ r) (reads l (bs .1) fifth b (bs .0)))
+  reads (b ∷ l) bs fifth x h = let g = given fifth x b h (bs .0) in
+      rw (again (both 2 x b), g .0, g .1) (ap (λ (r : List ℕ). x ∷ r) (reads l (bs .1) sixth b (bs .0)))
   reads (b ∷ l) bs sixth x h =
       let k : b < 256 = bs .0 in
       let g = given sixth x b h k in

@@ -33,7 +33,8 @@ from-any-reader r buffer line = refl
 -- ---- a packet is read back
 
 -- the body is at the front of the buffer
-lent-body : (body buffer : List ℕ) → length body + 2 ≤ length buffer → take (length body) (sets buffer 0 (storedOf body)) ≡ body
+lent-body : (body buffer : List ℕ) → length body + 2 ≤ length buffer
+    → take (length body) (sets buffer 0 (storedOf body)) ≡ body
 unfolding storedOf checked lowFirst
 lent-body [] buffer h = refl
 lent-body (b ∷ bs) buffer h =
@@ -80,7 +81,8 @@ one-message i j a b s t e =
 
 -- ---- a reply is read back
 
-reply-sendable : (sequence : ℕ) (message : List ℕ) → sequence ≤ sequenceMost → Bytes message → length message ≡ messageSize
+reply-sendable : (sequence : ℕ) (message : List ℕ) → sequence ≤ sequenceMost → Bytes message
+    → length message ≡ messageSize
     → Sendable (replyId sequence) message
 reply-sendable sequence message h k e =
     record { id-fits = omega arith; bytes = k; length-fits = omega arith }

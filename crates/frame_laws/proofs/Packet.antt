@@ -14,7 +14,8 @@ use Rattle.common.proofs.Bytes.{low-are-bytes}
 use Rattle.frame.specs.Checksum.{checksumStart, summed, summedAll, checksumOf}
 use Rattle.frame.specs.Stuffing.{stuffed}
 use Rattle.frame.specs.Packet.{beginByte, endByte, bodyMost, checked, headerOf, bodyPart, framed}
-use Rattle.frame.specs.Reader.{inHeader, inBody, begun, fresh, pushed, idIn, lengthIn, checksumIn, counted, added, sumAfter, isGood}
+use Rattle.frame.specs.Reader.{inHeader, inBody, begun, fresh, pushed, idIn, lengthIn, checksumIn, counted, added}
+use Rattle.frame.specs.Reader.{sumAfter, isGood}
 use Rattle.frame.specs.Reader.{beforeEnd, phaseAfterHeader, ended, afterPart, transitionOf, endOf}
 use Rattle.frame.specs.Feeding.{Outcome, outcome, later, stored, feedOf}
 use Rattle.frame.specs.declared.Reader.{Reader}
@@ -252,7 +253,8 @@ module _ (id : ℕ) (small : id < 0x100000000) where
         ≡ later (length (stuffed (checked (headerOf id n)))) (feedOf (startOf (phaseAfterHeader n) n id) buffer rest)
     unfolding headerOf lowFirst pushedAll afterPart
     header-read buffer rest =
-        let bytes : Bytes (headerOf id n) = bytes-append (lowFirst 4 id) (lowFirst 2 n) (low-are-bytes 4 id) (low-are-bytes 2 n) in
+        let bytes : Bytes (headerOf id n) = bytes-append (lowFirst 4 id) (lowFirst 2 n) (low-are-bytes 4 id)
+            (low-are-bytes 2 n) in
         let x = id % 256 in
         let bs = id / 256 % 256 ∷ id / 256 / 256 % 256 ∷ id / 256 / 256 / 256 % 256 ∷ n % 256 ∷ n / 256 % 256 ∷ [] in
         part-through inHeader 0 x bs bytes right refl buffer rest
@@ -261,7 +263,8 @@ module _ (id : ℕ) (small : id < 0x100000000) where
 
   -- the end byte
   module _ (r : Reader) (buffer : List ℕ) where
-    pub end-read : r .phase ≡ beforeEnd → feedOf r buffer (endByte ∷ []) ≡ outcome 1 (Packet (r .id) (r .size)) fresh buffer
+    pub end-read : r .phase ≡ beforeEnd → feedOf r buffer (endByte ∷ [])
+        ≡ outcome 1 (Packet (r .id) (r .size)) fresh buffer
     unfolding feedOf transitionOf endOf stored
     end-read e = rw e
 

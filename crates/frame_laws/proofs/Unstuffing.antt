@@ -39,7 +39,8 @@ past n z h = omega arith
 
 low-bits : {w m : ℕ} → Position w m → (d q : ℕ) → q < m / 2 → (d * (m / 2) + q) * (w * 2) % 128 ≡ q * (w * 2)
 low-bits first d q h = let e : (d * 2 + q) * 64 ≡ d * 128 + q * 64 = omega arith in rw e (past d (q * 64) (omega arith))
-low-bits second d q h = let e : (d * 4 + q) * 32 ≡ d * 128 + q * 32 = omega arith in rw e (past d (q * 32) (omega arith))
+low-bits second d q h = let e : (d * 4 + q) * 32 ≡ d * 128 + q * 32 = omega arith in
+    rw e (past d (q * 32) (omega arith))
 low-bits third d q h = let e : (d * 8 + q) * 16 ≡ d * 128 + q * 16 = omega arith in rw e (past d (q * 16) (omega arith))
 low-bits fourth d q h = let e : (d * 16 + q) * 8 ≡ d * 128 + q * 8 = omega arith in rw e (past d (q * 8) (omega arith))
 low-bits fifth d q h = let e : (d * 32 + q) * 4 ≡ d * 128 + q * 4 = omega arith in rw e (past d (q * 4) (omega arith))
@@ -122,7 +123,8 @@ pub record Unstuffs (w m l : ℕ) (cs : List ℕ) : Type 0 where
   pub written : stuffedFrom w (x * (w * 2) % 128) bs ≡ cs
 
 -- the last stuffed byte, or one before another that completes a byte
-module _ {w m : ℕ} (p : Position w m) (l c : ℕ) (h : Held m l) (a : 128 ≤ c) (b : c ≤ 255) (more : leb m 2 ≡ false) where
+module _ {w m : ℕ} (p : Position w m) (l c : ℕ) (h : Held m l) (a : 128 ≤ c) (b : c ≤ 255) (more : leb m 2
+    ≡ false) where
   at-end : eqb w 64 ≡ false → heldAfter m c ≡ 0 → Unstuffs w m l (c ∷ [])
   unfolding unstuffedFrom stuffedFrom Bytes
   at-end n e =

@@ -4,8 +4,11 @@ use frame::Fed;
 use frame::Reader;
 use frame::Transition;
 ghost use mathlib.Core.Path.{_≡_};
+ghost use Prim.Native.Nat.{_≤_};
+ghost use lib.ListN.{length};
 ghost use Rattle.frame.specs.Packet.{isRequest};
 ghost use Rattle.frame.specs.Feeding.{isAnswer, stored, call, callOf, sizeOf, bodyOf};
+ghost use Rattle.frame_reader.specs.Runs.{Runs};
 
 // Whether there is an answer.
 fn is_answer(a: Answer) -> bool
@@ -36,6 +39,32 @@ fn store(buffer: &mut [u8], r: Reader, t: Transition)
     buffer[at] = t.byte;
 }
 
+// A reader, and how many bytes of a piece it has taken.
+struct Progress {
+    reader: Reader,
+    at: usize,
+}
+
+// Takes the bytes of a piece, from one on, after which a part goes on. All of this could be left to `transition`; most
+// bytes are such, and this takes them faster.
+fn run(r: Reader, piece: &[u8], from: usize, buffer: &mut [u8]) -> Progress
+    requires { ⌜ from ≤ length (now piece) ⌝ }
+    ensures { λ p. ⌜ Runs r from p (now (piece .entry)) (now (buffer .entry)) (now (buffer .exit)) ⌝ }
+{
+    let mut n = r;
+    let mut at = from;
+    while at < piece.len() {
+        let c = piece[at];
+        if !frame_step::goes_on(n, c) {
+            return Progress { reader: n, at };
+        }
+        let next = frame_step::within(n, c, buffer);
+        n = next;
+        at += 1;
+    }
+    Progress { reader: n, at }
+}
+
 // Feeds a piece of the line to a reader, up to the first answer.
 pub fn feed(r: Reader, piece: &[u8], buffer: &mut [u8]) -> Fed
     ensures { λ f. ⌜ call f (now (buffer .exit)) ≡ callOf r (now (piece .entry)) (now (buffer .entry)) ⌝ }
@@ -48,29 +77,32 @@ pub fn feed(r: Reader, piece: &[u8], buffer: &mut [u8]) -> Fed
             reader: r,
         };
     }
-    let mut at = r;
-    let mut i: usize = 0;
-    while i < piece.len() {
-        let t = frame_step::transition(at, piece[i]);
-        store(buffer, at, t);
+    let first = run(r, piece, 0, buffer);
+    let mut reader = first.reader;
+    let mut at = first.at;
+    while at < piece.len() {
+        let t = frame_step::transition(reader, piece[at]);
+        store(buffer, reader, t);
         let a = t.answer;
         let next = t.reader;
         if is_answer(a) {
             return Fed {
                 number: common::ACCEPTED,
-                taken: i + 1,
+                taken: at + 1,
                 answer: a,
                 reader: next,
             };
         }
-        at = next;
-        i += 1;
+        let p = run(next, piece, at + 1, buffer);
+        let r = p.reader;
+        reader = r;
+        at = p.at;
     }
     Fed {
         number: common::ACCEPTED,
-        taken: i,
+        taken: at,
         answer: Answer::Nothing,
-        reader: at,
+        reader,
     }
 }
 

@@ -25,7 +25,8 @@ pub sum-all : (src : List ℕ) (s i : ℕ) → length src ≤ i → summedAll s 
 unfolding summedAll
 sum-all src s i h = rw (drop-of-length-le src h)
 
-pub sum-on : (src : List ℕ) (s i : ℕ) → i < length src → summedAll s (drop i src) ≡ summedAll (summed s (getD src i 0)) (drop (i + 1) src)
+pub sum-on : (src : List ℕ) (s i : ℕ) → i < length src
+    → summedAll s (drop i src) ≡ summedAll (summed s (getD src i 0)) (drop (i + 1) src)
 unfolding summedAll
 sum-on src s i h = rw (add-one i, drop-cons src i 0 h)
 
@@ -48,10 +49,12 @@ unfolding checked
 header-checked seq s h k e = rw (header-is seq h, ← e, low-two s k)
 
 pub body-is : (m : List ℕ) (s : ℕ) → length m ≡ 10 → s < 65536 → s ≡ checksumOf m
-    → getD m 0 0 ∷ getD m 1 0 ∷ getD m 2 0 ∷ getD m 3 0 ∷ getD m 4 0 ∷ getD m 5 0 ∷ getD m 6 0 ∷ getD m 7 0 ∷ getD m 8 0 ∷ getD m 9 0
+    → getD m 0 0 ∷ getD m 1 0 ∷ getD m 2 0 ∷ getD m 3 0 ∷ getD m 4 0 ∷ getD m 5 0 ∷ getD m 6 0 ∷ getD m 7 0 ∷ getD m 8
+        0 ∷ getD m 9 0
     ∷ s % 256 ∷ s / 256 ∷ [] ≡ checked m
 unfolding checked tab
-body-is m s h k e = rw (← e, low-two s k) (ap (λ (l : List ℕ). l ++ (s % 256 ∷ s / 256 ∷ [])) (sym (tab-sized m 0 10 h)))
+body-is m s h k e = rw (← e, low-two s k) (ap (λ (l : List ℕ). l ++ (s % 256 ∷ s / 256 ∷ [])) (sym
+    (tab-sized m 0 10 h)))
 
 -- ---- lengths
 

@@ -17,7 +17,8 @@ module _ (buffer : List ℕ) (at scale held b : ℕ) where
   one = set buffer at (128 + (held + b * scale / 128) % 128)
 
   pub stuff-two : scale ≤ 1 → (l : List ℕ)
-      → sets buffer at (stuffedFrom scale held (b ∷ l)) ≡ sets (set one (at + 1) (128 + b % 128)) (at + 2) (stuffedFrom 64 0 l)
+      → sets buffer at (stuffedFrom scale held (b ∷ l))
+          ≡ sets (set one (at + 1) (128 + b % 128)) (at + 2) (stuffedFrom 64 0 l)
   unfolding stuffedFrom
   stuff-two h l =
       let y : at + 1 ≡ suc at = omega arith in
@@ -25,7 +26,8 @@ module _ (buffer : List ℕ) (at scale held b : ℕ) where
       rw (le-leb scale 1 h, y, z)
 
   pub stuff-one : 1 < scale → (l : List ℕ)
-      → sets buffer at (stuffedFrom scale held (b ∷ l)) ≡ sets one (at + 1) (stuffedFrom (scale / 2) (b * scale % 128) l)
+      → sets buffer at (stuffedFrom scale held (b ∷ l))
+          ≡ sets one (at + 1) (stuffedFrom (scale / 2) (b * scale % 128) l)
   unfolding stuffedFrom
   stuff-one h l =
       let y : at + 1 ≡ suc at = omega arith in
@@ -37,6 +39,7 @@ module _ (buffer : List ℕ) (at held : ℕ) (src : List ℕ) (i : ℕ) (end : l
   unfolding stuffedFrom
   stuff-end scale h = rw (drop-of-length-le src end, eq-eqb scale 64 h)
 
-  pub stuff-rest : (scale : ℕ) → (scale ≡ 64 → ⊥) → sets buffer at (stuffedFrom scale held (drop i src)) ≡ set buffer at (128 + held % 128)
+  pub stuff-rest : (scale : ℕ) → (scale ≡ 64 → ⊥)
+      → sets buffer at (stuffedFrom scale held (drop i src)) ≡ set buffer at (128 + held % 128)
   unfolding stuffedFrom
   stuff-rest scale h = rw (drop-of-length-le src end, ne-eqb scale 64 h)

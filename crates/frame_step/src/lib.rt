@@ -3,11 +3,14 @@ use frame::Answer;
 use frame::Reader;
 use frame::Transition;
 ghost use mathlib.Core.Path.{_≡_};
-ghost use Prim.Native.Nat.{_+_, _≤_, _<_};
+ghost use mathlib.Core.Bool.{true};
+ghost use Prim.Native.Nat.{_<_};
+ghost use lib.ListN.{set};
 ghost use Rattle.frame.specs.Stuffing.{scaleAfter, completed};
 ghost use Rattle.frame.specs.Reader.{shifted, sumAfter, added, counted, badAnswer, isGood, ended};
 ghost use Rattle.frame.specs.Reader.{phaseAfterHeader, opened, afterPart, partAnswer, silent, answering};
 ghost use Rattle.frame.specs.Reader.{byteComplete, dataOf, endOf, transitionOf};
+ghost use Rattle.frame_step.specs.Within.{goesOn, Continues};
 
 // Where a header's length and checksum, and the last byte, stand in the last eight bytes.
 const LENGTH: u64 = 0x100000000;
@@ -15,6 +18,9 @@ const LENGTH: u64 = 0x100000000;
 const CHECKSUM: u64 = 0x1000000000000;
 
 const LAST: u64 = 0x100000000000000;
+
+// The longest body.
+const BODY_MOST: u64 = 532;
 
 // The byte that a stuffed byte completes.
 fn completed(r: Reader, c: u8) -> u8
@@ -127,7 +133,7 @@ fn is_good(r: Reader) -> bool
     if r.phase != frame::IN_HEADER {
         return true;
     }
-    r.last / LENGTH % 65536 <= frame::BODY_MOST as u64
+    r.last / LENGTH % 65536 <= BODY_MOST
 }
 
 // A reader before the end byte.
@@ -156,15 +162,17 @@ fn phase_after_header(size: u16) -> u8
     frame::IN_BODY
 }
 
-// A reader after a good header, whose eight bytes are `last`.
-fn open(last: u64) -> Reader
-    ensures { λ n. ⌜ n ≡ opened last ⌝ }
+// A reader after a good header, whose eight bytes are the last.
+fn open(r: Reader) -> Reader
+    ensures { λ n. ⌜ n ≡ opened (r .last) ⌝ }
 {
+    let last = r.last;
     let size = (last / LENGTH % 65536) as u16;
+    let id = (last % LENGTH) as u32;
     Reader {
         last: 0,
         count: 0,
-        id: (last % LENGTH) as u32,
+        id,
         scale: 2,
         size,
         sum: frame::CHECKSUM_START,
@@ -181,7 +189,7 @@ fn after_part(r: Reader) -> Reader
         return Reader::new();
     }
     if r.phase == frame::IN_HEADER {
-        return open(r.last);
+        return open(r);
     }
     end(r)
 }
@@ -289,4 +297,48 @@ pub fn transition(r: Reader, c: u8) -> Transition
         return ending(r, c);
     }
     silent(r)
+}
+
+// Whether a byte is stuffed data after which its part goes on.
+pub fn goes_on(r: Reader, c: u8) -> bool
+    ensures { λ b. ⌜ b ≡ goesOn r c ⌝ }
+{
+    if c < 128 {
+        return false;
+    }
+    if (r.size as u32) < r.count {
+        return false;
+    }
+    if r.phase == frame::IN_HEADER {
+        return true;
+    }
+    r.phase == frame::IN_BODY
+}
+
+// Stores a byte of a body, where the buffer has the place: a reader of any content may name another.
+fn put(buffer: &mut [u8], count: u32, b: u8)
+    ensures { λ _. ⌜ now (buffer .exit) ≡ set (now (buffer .entry)) count b ⌝ }
+{
+    let at = count as usize;
+    if buffer.len() <= at {
+        return;
+    }
+    buffer[at] = b;
+}
+
+// The same as `transition` for such a byte: most bytes are, and nothing is answered.
+pub fn within(r: Reader, c: u8, buffer: &mut [u8]) -> Reader
+    requires { ⌜ goesOn r c ≡ true ⌝ }
+    ensures { λ n. ⌜ Continues r c n (now (buffer .entry)) (now (buffer .exit)) ⌝ }
+{
+    if r.scale <= 2 {
+        return shift(r, c);
+    }
+    let b = completed(r, c);
+    let n = advance(add(shift(r, c), b));
+    if r.phase != frame::IN_BODY {
+        return n;
+    }
+    put(buffer, r.count, b);
+    n
 }

@@ -10,10 +10,12 @@ is-request-requires : tie.Need-is-request-requires
 is-request-requires c κs = search needs
 
 returns : tie.Need-returns
-returns c = let g : isRequest (c .before .before .args .id) (c .before .before .args .size) ≡ true = sym (c .before .is-request .ensures) ∙ c .if1 .taken in rw g
+returns c = let g : isRequest (c .before .before .args .id) (c .before .before .args .size)
+    ≡ true = sym (c .before .is-request .ensures) ∙ c .if1 .taken in rw g
 
 returns-2 : tie.Need-returns-2
-returns-2 c = let g : isRequest (c .before .before .args .id) (c .before .before .args .size) ≡ false = sym (c .before .is-request .ensures) ∙ c .if1 .left in rw g
+returns-2 c = let g : isRequest (c .before .before .args .id) (c .before .before .args .size)
+    ≡ false = sym (c .before .is-request .ensures) ∙ c .if1 .left in rw g
 
 pub request-spec : {M : Type 1} → statement M
 request-spec = tie.close (tie.spec is-request-requires returns returns-2)

@@ -11,18 +11,21 @@ use Rattle.frame_reader.proofs.feed.Statement.{statement}
 use Rattle.frame_reader.proofs.feed.Tie as tie
 
 abbrev Inv-loop : tie.InvT-loop
-Inv-loop piece buffer₀ at₀ i₀ buffer at i =
-    (i ≤ length piece) × (length buffer ≡ length buffer₀) × (bufferLeast ≤ length buffer₀)
-    × (feedOf at₀ buffer₀ piece ≡ later i (feedOf at buffer (drop i piece)))
+Inv-loop piece buffer₀ reader₀ at₀ buffer reader at =
+    (at ≤ length piece) × (length buffer ≡ length buffer₀)
+    × (later at₀ (feedOf reader₀ buffer₀ (drop at₀ piece)) ≡ later at (feedOf reader buffer (drop at piece)))
 
 abbrev μ-loop : tie.MeasureT-loop
-μ-loop piece buffer₀ at₀ i₀ buffer at i = length piece - i
+μ-loop piece buffer₀ reader₀ at₀ buffer reader at = length piece - at
 
 returns : tie.Need-returns Inv-loop μ-loop
 returns c = too-short _ _ _ (c .if1 .taken)
 
+run-requires : tie.Need-run-requires Inv-loop μ-loop
+run-requires c κs = search needs
+
 loop-holds : tie.Need-loop-holds Inv-loop μ-loop
-loop-holds c = (omega arith, refl, omega arith, later-zero _)
+loop-holds c = (c .before .before .before .run .ensures .inside, refl, refl)
 
 shared-slice-read-transition : tie.Need-shared-slice-read-transition Inv-loop μ-loop
 shared-slice-read-transition c = omega arith
@@ -36,50 +39,79 @@ store-requires c κs = search needs
 is-answer-requires : tie.Need-is-answer-requires Inv-loop μ-loop
 is-answer-requires c κs = search needs
 
-add-t20 : tie.Need-add-t20 Inv-loop μ-loop
-add-t20 c = omega arith
+add-t25 : tie.Need-add-t25 Inv-loop μ-loop
+add-t25 c =
+    let byte = c .before .before .before .before .before .before .before .before in
+    let test = byte .before .loop-test in
+    let known = byte .shared-slice-known2 in omega arith
 
 same-length : tie.Need-same-length Inv-loop μ-loop
 same-length c =
-    let o = c .before .before .before .before .before .before .before .before .before .before .loop in
-    let t = c .before .before .before .before .before .before .before .transition in
-    let l = c .before .before .before .before .before .store in
-    ap length (l .ensures) ∙ length-stored _ _ _ ∙ o .inv .1
+    let l = c .before .before .before .before .before in
+    let o = l .before .before .before .before .before in
+    let first = o .before .before .before .before in
+    ap length (l .store .ensures) ∙ length-stored _ _ _ ∙ o .loop .inv .1 ∙ first .run .ensures .same-size
 
 returns-2 : tie.Need-returns-2 Inv-loop μ-loop
 returns-2 c =
-    let o = c .before .before .before .before .before .before .before .before .before .before .loop in
-    let t = c .before .before .before .before .before .before .before .transition in
-    let l = c .before .before .before .before .before .store in
-    fed-by _ _ _ _ (o .inv .2)
-    (fed-answer _ _ _ (o .at) (o .buffer) (o .i) (o .inv .3) (omega arith) (t .result) (t .ensures) (l .last .0) (l .ensures)
-    (sym (c .before .is-answer .ensures) ∙ c .if2 .taken))
+    let a = c .before in
+    let l = a .before .before .before .before in
+    let t = l .before .before in
+    let o = t .before .before .before in
+    let first = o .before .before .before .before in
+    fed-by _ _ _ _ (first .before .before .if1 .left)
+    (later-zero _
+    ∙ first .run .ensures .goes
+    ∙ fed-answer _ _ (o .loop .reader) (o .loop .buffer) (o .loop .at) (o .loop .inv .2) (omega arith)
+        (t .transition .result)
+    (t .transition .ensures) (l .store .last .0) (l .store .ensures) (sym (a .is-answer .ensures) ∙ c .if2 .taken))
 
-add-i : tie.Need-add-i Inv-loop μ-loop
-add-i c = omega arith
+add-run : tie.Need-add-run Inv-loop μ-loop
+add-run c =
+    let byte = c .before .before .before .before .before .before .before .before in
+    let test = byte .before .loop-test in
+    let known = byte .shared-slice-known2 in omega arith
+
+run-requires-2 : tie.Need-run-requires-2 Inv-loop μ-loop
+run-requires-2 c κs = omega arith
 
 loop-less : tie.Need-loop-less Inv-loop μ-loop
-loop-less c = omega arith
+loop-less c =
+    let p = c .before .before .before in
+    let onward = p .run2 .ensures .onward in
+    let inside = p .run2 .ensures .inside in
+    let o = p .before .before .before .before .before .before .before .before .before .before .before in
+    let test = o .loop-test in omega arith
 
 loop-again : tie.Need-loop-again Inv-loop μ-loop
 loop-again c =
-    let o = c .before .before .before .before .before .before .before .before .before .before .loop in
-    let t = c .before .before .before .before .before .before .before .transition in
-    let l = c .before .before .before .before .before .store in (
-      omega arith,
-      ap length (l .ensures) ∙ length-stored _ _ _ ∙ o .inv .1,
-      o .inv .2,
-      fed-on _ _ _ (o .at) (o .buffer) (o .i) (o .inv .3) (omega arith) (t .result) (t .ensures) (l .last .0) (l .ensures)
-          (sym (c .before .is-answer .ensures) ∙ c .if2 .left),
+    let p = c .before .before .before in
+    let a = p .before .before .before in
+    let l = a .before .before .before .before in
+    let t = l .before .before in
+    let o = t .before .before .before in (
+      p .run2 .ensures .inside,
+      p .run2 .ensures .same-size ∙ ap length (l .store .ensures) ∙ length-stored _ _ _ ∙ o .loop .inv .1,
+      fed-on _ _ (o .loop .reader) (o .loop .buffer) (o .loop .at) (o .loop .inv .2) (omega arith)
+          (t .transition .result)
+          (t .transition .ensures) (l .store .last .0) (l .store .ensures)
+          (sym (a .is-answer .ensures) ∙ p .before .before .if2 .left)
+          ∙ p .run2 .ensures .goes,
     )
 
 same-length-2 : tie.Need-same-length-2 Inv-loop μ-loop
-same-length-2 c = c .before .loop .inv .1
+same-length-2 c =
+    let o = c .before in
+    let first = o .before .before .before .before in o .loop .inv .1 ∙ first .run .ensures .same-size
 
 returns-3 : tie.Need-returns-3 Inv-loop μ-loop
 returns-3 c =
-    let o = c .before .loop in
-    fed-by _ _ _ _ (o .inv .2) (fed-all _ _ _ (o .at) (o .buffer) (o .i) (o .inv .3) (omega arith))
+    let o = c .before in
+    let first = o .before .before .before .before in
+    fed-by _ _ _ _ (first .before .before .if1 .left)
+    (later-zero _
+    ∙ first .run .ensures .goes
+    ∙ fed-all _ _ (o .loop .reader) (o .loop .buffer) (o .loop .at) (o .loop .inv .2) (omega arith))
 
 pub feed-spec : {M : Type 1} → statement M
 feed-spec =
@@ -88,15 +120,17 @@ feed-spec =
     Inv-loop
     μ-loop
     returns
+    run-requires
     loop-holds
     shared-slice-read-transition
     transition-requires
     store-requires
     is-answer-requires
-    add-t20
+    add-t25
     same-length
     returns-2
-    add-i
+    add-run
+    run-requires-2
     loop-less
     loop-again
     same-length-2

@@ -45,7 +45,9 @@ cast-t26 : tie.Need-cast-t26
 cast-t26 c = search needs
 
 returns : tie.Need-returns
-returns c = body-is _ (c .before .before .before .before .before .before .before .before .before .before .checksum .result) (omega arith) (omega arith) (c .before .before .before .before .before .before .before .before .before .before .checksum .ensures)
+returns c = body-is _ (c .before .before .before .before .before .before .before .before .before .before .checksum
+    .result) (omega arith) (omega arith) (c .before .before .before .before .before .before .before .before .before
+    .before .checksum .ensures)
 
 pub body-spec : {M : Type 1} → statement M
 body-spec =

@@ -13,7 +13,8 @@ use Rattle.frame_reply.proofs.stuff.Tie as tie
 
 abbrev Inv-loop : tie.InvT-loop
 Inv-loop src buffer₀ from s₀ i₀ buffer s i =
-    (i ≤ length src) × (s .scale ≤ 64) × (s .at ≤ from + 2 * i) × (from + 2 * length src ≤ 65536) × (length buffer ≡ length buffer₀)
+    (i ≤ length src) × (s .scale ≤ 64) × (s .at ≤ from + 2 * i) × (from + 2 * length src ≤ 65536) × (length buffer
+    ≡ length buffer₀)
     × (sets buffer₀ from (stuffed src) ≡ sets buffer (s .at) (stuffedFrom (s .scale) (s .held) (drop i src)))
 
 abbrev μ-loop : tie.MeasureT-loop
@@ -39,20 +40,24 @@ loop-again : tie.Need-loop-again Inv-loop μ-loop
 loop-again c =
     let o = c .before .before .before .before .before .before .loop in
     let n = c .before .before .stuff-byte in
-    let inside : o .i + 1 ≤ length (c .before .before .before .before .before .before .before .before .before .args .src .now) = omega arith in (
+    let inside : o .i + 1 ≤ length (c .before .before .before .before .before .before .before .before .before .args
+        .src .now) = omega arith in (
       inside,
       n .ensures .1 .0,
       omega arith,
       o .inv .3,
       omega arith,
-      o .inv .5 ∙ rw (add-one (o .i), drop-cons {A = ℕ} (c .before .before .before .before .before .before .before .before .before .args .src .now) (o .i) 0 (omega arith)) (n .ensures .0 _),
+      o .inv .5 ∙ rw (add-one (o .i), drop-cons {A =
+          ℕ} (c .before .before .before .before .before .before .before .before .before .args .src .now) (o .i) 0
+          (omega arith)) (n .ensures .0 _),
     )
 
 same-length : tie.Need-same-length Inv-loop μ-loop
 same-length c = c .before .before .before .loop .inv .4
 
 returns : tie.Need-returns Inv-loop μ-loop
-returns c = let o = c .before .before .before .loop in sym (o .inv .5 ∙ stuff-end _ _ _ _ (o .i) (omega arith) _ (c .if1 .taken))
+returns c = let o = c .before .before .before .loop in
+    sym (o .inv .5 ∙ stuff-end _ _ _ _ (o .i) (omega arith) _ (c .if1 .taken))
 
 add-put : tie.Need-add-put Inv-loop μ-loop
 add-put c = omega arith
@@ -64,7 +69,9 @@ same-length-2 : tie.Need-same-length-2 Inv-loop μ-loop
 same-length-2 c = omega arith
 
 returns-2 : tie.Need-returns-2 Inv-loop μ-loop
-returns-2 c = let o = c .before .before .before .before .before .before .before .before .loop in c .before .before .put .ensures ∙ sym (o .inv .5 ∙ stuff-rest _ _ _ _ (o .i) (omega arith) _ (c .before .before .before .before .before .if1 .left))
+returns-2 c = let o = c .before .before .before .before .before .before .before .before .loop in
+    c .before .before .put .ensures ∙ sym (o .inv .5
+    ∙ stuff-rest _ _ _ _ (o .i) (omega arith) _ (c .before .before .before .before .before .if1 .left))
 
 pub stuff-spec : {M : Type 1} → statement M
 stuff-spec =

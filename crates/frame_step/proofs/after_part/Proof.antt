@@ -16,21 +16,33 @@ new-requires c κs = search needs
 
 returns : tie.Need-returns
 unfolding afterPart
-returns c = let g : isGood (c .before .before .before .args .r) ≡ false = sym (c .before .before .is-good .ensures) ∙ not-true _ (c .before .if1 .taken) in c .new .ensures ∙ rw g
+returns c =
+    let t = c .before in
+    let g : isGood (t .before .before .args .r) ≡ false = sym (t .before .is-good .ensures)
+        ∙ not-true _ (t .if1 .taken) in
+    c .new .ensures ∙ rw g
 
 open-requires : tie.Need-open-requires
 open-requires c κs = search needs
 
 returns-2 : tie.Need-returns-2
 unfolding afterPart
-returns-2 c = let g : isGood (c .before .before .before .before .before .args .r) ≡ true = sym (c .before .before .before .before .is-good .ensures) ∙ not-false _ (c .before .before .before .if1 .left) in c .«open» .ensures ∙ rw (g, eq-eqb _ _ (c .before .if2 .taken))
+returns-2 c =
+    let t = c .before .before .before in
+    let good = sym (t .before .is-good .ensures) ∙ not-false _ (t .if1 .left) in
+    let g : isGood (t .before .before .args .r) ≡ true = good in
+    c .«open» .ensures ∙ rw (g, eq-eqb _ _ (c .before .if2 .taken))
 
 end-requires : tie.Need-end-requires
 end-requires c κs = search needs
 
 returns-3 : tie.Need-returns-3
 unfolding afterPart
-returns-3 c = let g : isGood (c .before .before .before .before .before .args .r) ≡ true = sym (c .before .before .before .before .is-good .ensures) ∙ not-false _ (c .before .before .before .if1 .left) in c .end .ensures ∙ rw (g, ne-eqb _ _ (c .before .if2 .left))
+returns-3 c =
+    let t = c .before .before .before in
+    let good = sym (t .before .is-good .ensures) ∙ not-false _ (t .if1 .left) in
+    let g : isGood (t .before .before .args .r) ≡ true = good in
+    c .end .ensures ∙ rw (g, ne-eqb _ _ (c .before .if2 .left))
 
 pub after-part-spec : {M : Type 1} → statement M
 after-part-spec =

@@ -1,4 +1,4 @@
--- `frame_step::say` meets its contract. Assumes nothing.
+-- `frame_step::answering` meets its contract. Assumes nothing.
 use borrow.Author.Needs.{needs}
 use Rattle.frame_step.proofs.answering.Statement.{statement}
 use Rattle.frame_step.proofs.answering.Tie as tie

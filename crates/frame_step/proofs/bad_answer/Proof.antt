@@ -22,7 +22,8 @@ cast-t7 c = search needs
 
 returns-3 : tie.Need-returns-3
 unfolding badAnswer isData
-returns-3 c = simp (eq-eqb _ _ (c .before .before .before .before .if1 .left), ne-eqb _ _ (c .before .before .if2 .left))
+returns-3 c =
+    simp (eq-eqb _ _ (c .before .before .before .before .if1 .left), ne-eqb _ _ (c .before .before .if2 .left))
 
 pub bad-answer-spec : {M : Type 1} → statement M
 bad-answer-spec = tie.close (tie.spec returns returns-2 cast-t5 cast-t7 returns-3)

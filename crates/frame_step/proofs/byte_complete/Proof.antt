@@ -1,4 +1,4 @@
--- `frame_step::byte_in` meets its contract. Assumes nothing.
+-- `frame_step::byte_complete` meets its contract. Assumes nothing.
 use borrow.Author.Tests.{le-leb, lt-leb}
 use Rattle.frame.specs.Reader.{byteComplete}
 use borrow.Author.Needs.{needs}
@@ -22,14 +22,19 @@ part-answer-requires c κs = search needs
 
 returns : tie.Need-returns
 unfolding byteComplete
-returns c = rw (c .before .after-part .ensures, c .part-answer .ensures, c .before .before .before .before .before .add .ensures, le-leb _ _ (rw (c .before .before .before .before .before .add .ensures) at (c .before .before .if1 .taken)))
+returns c =
+    let n = c .before .before .before .before .before in
+    rw (c .before .after-part .ensures, c .part-answer .ensures, n .add .ensures,
+    le-leb _ _ (rw (n .add .ensures) at (c .before .before .if1 .taken)))
 
 advance-requires : tie.Need-advance-requires
 advance-requires c κs = search needs
 
 returns-2 : tie.Need-returns-2
 unfolding byteComplete
-returns-2 c = rw (c .advance .ensures, c .before .before .before .before .add .ensures, lt-leb _ _ (rw (c .before .before .before .before .add .ensures) at (c .before .if1 .left)))
+returns-2 c =
+    let n = c .before .before .before .before in
+    rw (c .advance .ensures, n .add .ensures, lt-leb _ _ (rw (n .add .ensures) at (c .before .if1 .left)))
 
 pub byte-complete-spec : {M : Type 1} → statement M
 byte-complete-spec =

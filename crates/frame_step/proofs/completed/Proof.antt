@@ -1,4 +1,4 @@
--- `frame_step::byte_now` meets its contract. Assumes nothing.
+-- `frame_step::completed` meets its contract. Assumes nothing.
 use native.Mathlib.Omega.{arith}
 use Rattle.frame_step.proofs.Bounds.{scaled}
 use borrow.Author.Needs.{needs}
@@ -12,10 +12,14 @@ cast-result : tie.Need-cast-result
 cast-result c = search needs
 
 mul-result : tie.Need-mul-result
-mul-result c = record { fits = omega (arith, scaled (c .before .before .args .c) (c .before .before .args .r .scale) (search needs)) }
+mul-result c =
+    let s = c .before .before in
+    record { fits = omega (arith, scaled (s .args .c) (s .args .r .scale) (search needs)) }
 
 add-result : tie.Need-add-result
-add-result c = record { fits = omega (arith, scaled (c .before .before .args .c) (c .before .before .args .r .scale) (search needs)) }
+add-result c =
+    let s = c .before .before in
+    record { fits = omega (arith, scaled (s .args .c) (s .args .r .scale) (search needs)) }
 
 cast-result-2 : tie.Need-cast-result-2
 cast-result-2 c = search needs

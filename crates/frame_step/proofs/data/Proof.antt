@@ -1,4 +1,4 @@
--- `frame_step::part` meets its contract. Assumes nothing.
+-- `frame_step::data` meets its contract. Assumes nothing.
 use borrow.Author.Tests.{lt-ltb, le-ltb, le-leb, lt-leb}
 use mathlib.Core.Path.{_∙_}
 use Rattle.frame.specs.Reader.{dataOf}
@@ -24,7 +24,10 @@ silent-requires c κs = search needs
 
 returns-2 : tie.Need-returns-2
 unfolding dataOf
-returns-2 c = c .silent .ensures ∙ rw (c .before .shift .ensures, le-ltb _ _ (c .before .before .before .before .if1 .left), le-leb _ _ (c .before .before .if2 .taken))
+returns-2 c =
+    let n = c .before .before in
+    c .silent .ensures
+    ∙ rw (c .before .shift .ensures, le-ltb _ _ (n .before .before .if1 .left), le-leb _ _ (n .if2 .taken))
 
 shift-requires-2 : tie.Need-shift-requires-2
 shift-requires-2 c κs = search needs
@@ -37,7 +40,11 @@ byte-complete-requires c κs = search needs
 
 returns-3 : tie.Need-returns-3
 unfolding dataOf
-returns-3 c = c .byte-complete .ensures ∙ rw (c .before .before .shift2 .ensures, c .before .completed .ensures, le-ltb _ _ (c .before .before .before .before .before .if1 .left), lt-leb _ _ (c .before .before .before .if2 .left))
+returns-3 c =
+    let n = c .before .before .before in
+    c .byte-complete .ensures
+    ∙ rw (c .before .before .shift2 .ensures, c .before .completed .ensures, le-ltb _ _ (n .before .before .if1 .left),
+    lt-leb _ _ (n .if2 .left))
 
 pub data-spec : {M : Type 1} → statement M
 data-spec =

@@ -18,14 +18,17 @@ returns-2 c = simp (eq-eqb _ _ (c .before .before .before .if1 .left), ne-eqb _ 
 
 returns-3 : tie.Need-returns-3
 unfolding isGood
-returns-3 c = simp (eq-eqb _ _ (c .before .before .before .before .before .if1 .left), eq-eqb _ _ (c .before .before .if2 .left), ne-eqb _ _ (c .if3 .taken))
-
-cast-result : tie.Need-cast-result
-cast-result c = search needs
+returns-3 c =
+    let n2 = c .before .before in
+    let n1 = n2 .before .before .before in
+    simp (eq-eqb _ _ (n1 .if1 .left), eq-eqb _ _ (n2 .if2 .left), ne-eqb _ _ (c .if3 .taken))
 
 returns-4 : tie.Need-returns-4
 unfolding isGood
-returns-4 c = simp (eq-eqb _ _ (c .before .before .before .before .before .before .if1 .left), eq-eqb _ _ (c .before .before .before .if2 .left), eq-eqb _ _ (c .before .if3 .left))
+returns-4 c =
+    let n2 = c .before .before .before in
+    let n1 = n2 .before .before .before in
+    simp (eq-eqb _ _ (n1 .if1 .left), eq-eqb _ _ (n2 .if2 .left), eq-eqb _ _ (c .before .if3 .left))
 
 pub is-good-spec : {M : Type 1} → statement M
-is-good-spec = tie.close (tie.spec returns cast-if2 returns-2 returns-3 cast-result returns-4)
+is-good-spec = tie.close (tie.spec returns cast-if2 returns-2 returns-3 returns-4)

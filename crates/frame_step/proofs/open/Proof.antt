@@ -9,11 +9,11 @@ cast-size c = search needs
 phase-after-header-requires : tie.Need-phase-after-header-requires
 phase-after-header-requires c κs = search needs
 
-cast-t5 : tie.Need-cast-t5
-cast-t5 c = search needs
+cast-id : tie.Need-cast-id
+cast-id c = search needs
 
 returns : tie.Need-returns
 returns c = cc
 
 pub open-spec : {M : Type 1} → statement M
-open-spec = tie.close (tie.spec cast-size cast-t5 phase-after-header-requires returns)
+open-spec = tie.close (tie.spec cast-size cast-id phase-after-header-requires returns)

@@ -1,4 +1,4 @@
--- `frame_step::phase_of` meets its contract. Assumes nothing.
+-- `frame_step::phase_after_header` meets its contract. Assumes nothing.
 use borrow.Author.Tests.{eq-eqb, ne-eqb}
 use Rattle.frame.specs.Reader.{phaseAfterHeader}
 use Rattle.frame_step.proofs.phase_after_header.Statement.{statement}
