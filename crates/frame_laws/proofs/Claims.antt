@@ -74,10 +74,11 @@ one-message i j a b s t e =
     let o = rw e at p in
     let same : Packet i (length a) ≡ Packet j (length b) = ap (λ (x : Outcome). x .answer) (sym o ∙ q) in
     let kept : sets room 0 (storedOf a) ≡ sets room 0 (storedOf b) = ap (λ (x : Outcome). x .buffer) (sym o ∙ q) in
-    let n : length a ≡ length b = cc in
-    (cc,
-    sym (lent-body a room (omega (arith, room-size, s .length-fits)))
-    ∙ rw (kept, n) (lent-body b room (omega (arith, room-size, t .length-fits))))
+    let n : length a ≡ length b = cc in (
+      cc,
+      sym (lent-body a room (omega (arith, room-size, s .length-fits)))
+          ∙ rw (kept, n) (lent-body b room (omega (arith, room-size, t .length-fits))),
+    )
 
 -- ---- a reply is read back
 
@@ -107,9 +108,10 @@ frames =
       any-cutting = λ sizes r buffer line. any-cutting sizes 0 r buffer line;
       read-back = read-back;
       one-message = one-message;
-      reply-read-back = λ sequence message room h k e l r buffer n.
-      (reply-written sequence message room h e l,
-      read-back (replyId sequence) message (reply-sendable sequence message h k e) r buffer n,
-      omega arith,
-      is-request sequence message h e);
+      reply-read-back = λ sequence message room h k e l r buffer n. (
+        reply-written sequence message room h e l,
+        read-back (replyId sequence) message (reply-sendable sequence message h k e) r buffer n,
+        omega arith,
+        is-request sequence message h e,
+      );
     }

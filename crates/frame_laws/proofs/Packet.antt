@@ -48,8 +48,12 @@ pub last-part : (bs : List ℕ) (r : Reader) (x c d : ℕ) → r .count + suc (l
 unfolding lastFrom sumAfter summedAll pushedAll
 last-part [] r x c d h =
     let y : r .count + 1 + 1 ≡ r .size + 1 = omega arith in
-    rw (lt-ltb (r .count) (r .size) (omega arith), le-ltb (r .count + 1) (r .size) (omega arith),
-    le-ltb (r .count + 1 + 1) (r .size) (omega arith), y)
+    rw (
+      lt-ltb (r .count) (r .size) (omega arith),
+      le-ltb (r .count + 1) (r .size) (omega arith),
+      le-ltb (r .count + 1 + 1) (r .size) (omega arith),
+      y,
+    )
 last-part (y ∷ bs) r x c d h =
     last-part bs (counted (added r x)) y c d (omega arith)
     ∙ rw (lt-ltb (r .count) (r .size) (omega arith))
@@ -254,12 +258,16 @@ module _ (id : ℕ) (small : id < 0x100000000) where
     unfolding headerOf lowFirst pushedAll afterPart
     header-read buffer rest =
         let bytes : Bytes (headerOf id n) = bytes-append (lowFirst 4 id) (lowFirst 2 n) (low-are-bytes 4 id)
-            (low-are-bytes 2 n) in
+        (low-are-bytes 2 n) in
         let x = id % 256 in
         let bs = id / 256 % 256 ∷ id / 256 / 256 % 256 ∷ id / 256 / 256 / 256 % 256 ∷ n % 256 ∷ n / 256 % 256 ∷ [] in
         part-through inHeader 0 x bs bytes right refl buffer rest
-        ∙ rw (part-good inHeader 0 x bs bytes right, length-is, id-is,
-        kept-header (bs ++ lowFirst 2 s) begun x buffer refl)
+        ∙ rw (
+          part-good inHeader 0 x bs bytes right,
+          length-is,
+          id-is,
+          kept-header (bs ++ lowFirst 2 s) begun x buffer refl,
+        )
 
   -- the end byte
   module _ (r : Reader) (buffer : List ℕ) where
@@ -283,9 +291,11 @@ module _ (id : ℕ) (small : id < 0x100000000) where
       let some : eqb (suc (length bs)) 0 ≡ false = ne-eqb (suc (length bs)) 0 (λ e. omega arith) in
       rw some
       (part-through inBody id b bs bytes refl refl buffer (endByte ∷ [])
-      ∙ rw (part-good inBody id b bs bytes refl,
-      kept-body (bs ++ lowFirst 2 (checksumOf (b ∷ bs))) (partStart inBody id b bs) b buffer refl,
-      end-read (ended last) kept refl))
+      ∙ rw (
+        part-good inBody id b bs bytes refl,
+        kept-body (bs ++ lowFirst 2 (checksumOf (b ∷ bs))) (partStart inBody id b bs) b buffer refl,
+        end-read (ended last) kept refl,
+      ))
 
   pub packet-read : (body : List ℕ) → Bytes body → length body ≤ bodyMost → (r : Reader) (buffer : List ℕ)
       → feedOf r buffer (framed id body)

@@ -21,8 +21,17 @@ use Rattle.frame.specs.declared.Answer.the-variants.{Nothing}
 -- a reader with these bits in hand
 abbrev pub with-bits : Reader → ℕ → ℕ → Reader
 with-bits r m a =
-    record { phase = r .phase; scale = m; held = a; count = r .count; size = r .size; sum = r .sum; last =
-        r .last; id = r .id }
+    record {
+      phase = r .phase;
+      scale = m;
+      held = a;
+      count = r .count;
+      size = r .size;
+      sum = r .sum;
+      last =
+          r .last;
+      id = r .id;
+    }
 
 abbrev pub InPart : Reader → Type 0
 InPart r = (eqb (r .phase) 1 || eqb (r .phase) 2) ≡ true
@@ -47,14 +56,24 @@ completes r m left c x a p h k e f =
 -- a byte that is not the last of its part; the last, of a isGood part
 module _ (r : Reader) (m a x : ℕ) where
   pub goes-on : r .count ≤ r .size
-      → byteComplete (with-bits r m a) x ≡ record { reader = with-bits (counted (added r x)) m a; stores =
-          eqb (r .phase) 2; byte = x; answer = Nothing }
+      → byteComplete (with-bits r m a) x ≡ record {
+        reader = with-bits (counted (added r x)) m a;
+        stores =
+            eqb (r .phase) 2;
+        byte = x;
+        answer = Nothing;
+      }
   unfolding byteComplete sumAfter
   goes-on h = rw (lt-leb (r .size + 1) (r .count) (omega arith))
 
   pub ends-good : r .size + 1 ≤ r .count → isGood (with-bits (added r x) 0 0) ≡ true
-      → byteComplete (with-bits r m 0) x ≡ record { reader = afterPart (with-bits (added r x) 0 0); stores =
-          eqb (r .phase) 2; byte = x; answer = Nothing }
+      → byteComplete (with-bits r m 0) x ≡ record {
+        reader = afterPart (with-bits (added r x) 0 0);
+        stores =
+            eqb (r .phase) 2;
+        byte = x;
+        answer = Nothing;
+      }
   unfolding byteComplete sumAfter afterPart partAnswer isGood
   ends-good h g = rw (le-leb (r .size + 1) (r .count) h, g)
 
@@ -76,13 +95,13 @@ module _ (r : Reader) (m left c x a : ℕ) (p : InPart r) (h : 128 ≤ c) (k : 2
     (e : (left + c % 128 * m / 256) % 256 ≡ x) (f : c % 128 * m % 256 ≡ a) (buffer cs : List ℕ) where
   turn-on : r .count ≤ r .size
       → feedOf (with-bits r m left) buffer (c ∷ cs)
-          ≡ later 1 (feedOf (with-bits (counted (added r x)) (scaleAfter m) a) (keep r x buffer) cs)
+      ≡ later 1 (feedOf (with-bits (counted (added r x)) (scaleAfter m) a) (keep r x buffer) cs)
   unfolding feedOf stored
   turn-on g = rw (completes r m left c x a p h k e f, goes-on r (scaleAfter m) a x g)
 
   turn-end : a ≡ 0 → r .size + 1 ≤ r .count → isGood (with-bits (added r x) 0 0) ≡ true
       → feedOf (with-bits r m left) buffer (c ∷ cs)
-          ≡ later 1 (feedOf (afterPart (with-bits (added r x) 0 0)) (keep r x buffer) cs)
+      ≡ later 1 (feedOf (afterPart (with-bits (added r x) 0 0)) (keep r x buffer) cs)
   unfolding feedOf stored
   turn-end z g t = rw (completes r m left c x a p h k e f, z, ends-good r (scaleAfter m) 0 x g t)
 
@@ -103,7 +122,7 @@ Through w m x l = (r : Reader) (buffer rest : List ℕ) → InPart r → r .coun
     → isGood (lastFrom r x l) ≡ true
     → feedOf (with-bits r m (x / (m / 2) * (m / 2))) buffer (stuffedFrom w (x * (w * 2) % 128) l ++ rest)
     ≡ later (length (stuffedFrom w (x * (w * 2) % 128) l)) (feedOf (afterPart (lastFrom r x l))
-        (keptFrom r x l buffer) rest)
+    (keptFrom r x l buffer) rest)
 
 -- the first of eight stuffed bytes completes none
 starts : (r : Reader) (left c a : ℕ) → InPart r → 128 ≤ c → c % 128 * 2 % 256 ≡ a → (buffer cs : List ℕ)
@@ -113,7 +132,7 @@ starts r left c a p h f buffer cs = rw (due (with-bits r 2 left) c p h, le-ltb c
 
 begins-part : (d : ℕ) (l : List ℕ) → d < 256 → Through 32 4 d l
     → (r : Reader) (buffer rest : List ℕ) → InPart r → r .count + length l ≡ r .size + 1
-        → isGood (lastFrom r d l) ≡ true
+    → isGood (lastFrom r d l) ≡ true
     → feedOf (with-bits r 2 0) buffer (stuffedFrom 64 0 (d ∷ l) ++ rest)
     ≡ later (length (stuffedFrom 64 0 (d ∷ l))) (feedOf (afterPart (lastFrom r d l)) (keptFrom r d l buffer) rest)
 unfolding stuffedFrom
@@ -135,27 +154,27 @@ unfolding stuffedFrom scaleAfter Bytes lastFrom keptFrom
 through [] bs first x h r buffer rest p z g =
     turn-end r 4 (x / 2 * 2) (128 + x * 64 % 128 % 128) x 0 p (omega arith) (omega arith)
     (rw (again (x * 64 % 128)) (last first x h)) (rw (again (x * 64 % 128)) (none first x h)) buffer rest refl
-        (omega arith) g
+    (omega arith) g
 through [] bs second x h r buffer rest p z g =
     turn-end r 8 (x / 4 * 4) (128 + x * 32 % 128 % 128) x 0 p (omega arith) (omega arith)
     (rw (again (x * 32 % 128)) (last second x h)) (rw (again (x * 32 % 128)) (none second x h)) buffer rest refl
-        (omega arith) g
+    (omega arith) g
 through [] bs third x h r buffer rest p z g =
     turn-end r 16 (x / 8 * 8) (128 + x * 16 % 128 % 128) x 0 p (omega arith) (omega arith)
     (rw (again (x * 16 % 128)) (last third x h)) (rw (again (x * 16 % 128)) (none third x h)) buffer rest refl
-        (omega arith) g
+    (omega arith) g
 through [] bs fourth x h r buffer rest p z g =
     turn-end r 32 (x / 16 * 16) (128 + x * 8 % 128 % 128) x 0 p (omega arith) (omega arith)
     (rw (again (x * 8 % 128)) (last fourth x h)) (rw (again (x * 8 % 128)) (none fourth x h)) buffer rest refl
-        (omega arith) g
+    (omega arith) g
 through [] bs fifth x h r buffer rest p z g =
     turn-end r 64 (x / 32 * 32) (128 + x * 4 % 128 % 128) x 0 p (omega arith) (omega arith)
     (rw (again (x * 4 % 128)) (last fifth x h)) (rw (again (x * 4 % 128)) (none fifth x h)) buffer rest refl
-        (omega arith) g
+    (omega arith) g
 through [] bs sixth x h r buffer rest p z g =
     turn-end r 128 (x / 64 * 64) (128 + x * 2 % 128 % 128) x 0 p (omega arith) (omega arith)
     (rw (again (x * 2 % 128)) (last sixth x h)) (rw (again (x * 2 % 128)) (none sixth x h)) buffer rest refl
-        (omega arith) g
+    (omega arith) g
 through (b ∷ l) bs first x h r buffer rest p z g =
     let q = given first x b h (bs .0) in
     turn-on r 4 (x / 2 * 2) (128 + both 32 x b % 128) x (b / 4 * 4) p (omega arith) (omega arith)

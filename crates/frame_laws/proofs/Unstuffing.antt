@@ -91,9 +91,11 @@ module _ {w m : ℕ} (p : Position w m) (d c : ℕ) (h : d * (m / 2) < 256) (a :
 
   on-from : (y : ℕ) → y < 256 → y / m * m ≡ heldAfter m c → Completes w m l c (y * w / 128)
   on-from y k e =
-      let f = whole p d q h (parts p c .0) in
-      (omega arith, rw (f .0) (f .1),
-      rw (f .0, bits-on p d q (c % 128) y (heldAfter m c) (parts p c .0) (parts p c .1) k e) (high-bit c a b))
+      let f = whole p d q h (parts p c .0) in (
+        omega arith,
+        rw (f .0) (f .1),
+        rw (f .0, bits-on p d q (c % 128) y (heldAfter m c) (parts p c .0) (parts p c .1) k e) (high-bit c a b),
+      )
 
 module _ {w m : ℕ} (p : Position w m) (l c : ℕ) (h : Held m l) (a : 128 ≤ c) (b : c ≤ 255) where
   pub completes-last : heldAfter m c ≡ 0 → Completes w m l c 0

@@ -50,7 +50,7 @@ header-checked seq s h k e = rw (header-is seq h, ← e, low-two s k)
 
 pub body-is : (m : List ℕ) (s : ℕ) → length m ≡ 10 → s < 65536 → s ≡ checksumOf m
     → getD m 0 0 ∷ getD m 1 0 ∷ getD m 2 0 ∷ getD m 3 0 ∷ getD m 4 0 ∷ getD m 5 0 ∷ getD m 6 0 ∷ getD m 7 0 ∷ getD m 8
-        0 ∷ getD m 9 0
+    0 ∷ getD m 9 0
     ∷ s % 256 ∷ s / 256 ∷ [] ≡ checked m
 unfolding checked tab
 body-is m s h k e = rw (← e, low-two s k) (ap (λ (l : List ℕ). l ++ (s % 256 ∷ s / 256 ∷ [])) (sym

@@ -18,7 +18,7 @@ module _ (buffer : List ℕ) (at scale held b : ℕ) where
 
   pub stuff-two : scale ≤ 1 → (l : List ℕ)
       → sets buffer at (stuffedFrom scale held (b ∷ l))
-          ≡ sets (set one (at + 1) (128 + b % 128)) (at + 2) (stuffedFrom 64 0 l)
+      ≡ sets (set one (at + 1) (128 + b % 128)) (at + 2) (stuffedFrom 64 0 l)
   unfolding stuffedFrom
   stuff-two h l =
       let y : at + 1 ≡ suc at = omega arith in
@@ -27,7 +27,7 @@ module _ (buffer : List ℕ) (at scale held b : ℕ) where
 
   pub stuff-one : 1 < scale → (l : List ℕ)
       → sets buffer at (stuffedFrom scale held (b ∷ l))
-          ≡ sets one (at + 1) (stuffedFrom (scale / 2) (b * scale % 128) l)
+      ≡ sets one (at + 1) (stuffedFrom (scale / 2) (b * scale % 128) l)
   unfolding stuffedFrom
   stuff-one h l =
       let y : at + 1 ≡ suc at = omega arith in

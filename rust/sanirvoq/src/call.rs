@@ -1,7 +1,7 @@
 //! The calls into the archive: the crate's only unsafe code. A step called so answers as the archive
 //! does, in one number; [`Stub`](crate::Stub) answers with enums.
 
-use crate::ffi::{self, Comparison, Fields, Found, Run, Target};
+use crate::ffi::{self, Comparison, Fields, Found, FrameFed, FrameReader, Run, Target};
 use crate::{BLOCK, MESSAGE};
 use core::slice;
 
@@ -154,4 +154,40 @@ pub(crate) fn numbers(list: &mut [Run]) -> &mut [u32] {
     // SAFETY: A run is two `u32` and nothing else (asserted in `ffi`), so the memory of the list is
     // that of twice as many numbers, which the result borrows in its place. Any numbers are runs.
     unsafe { slice::from_raw_parts_mut(list.as_mut_ptr().cast(), 2 * list.len()) }
+}
+
+/// A reader of packets that skips to the next begin byte.
+pub fn frame_reader() -> FrameReader {
+    // SAFETY: The function takes nothing, always returns and does not unwind.
+    unsafe { ffi::sanirvoq_frame_reader() }
+}
+
+/// Feeds a piece of the line to a reader; answers as the archive does.
+pub fn frame_feed(reader: FrameReader, piece: &[u8], buffer: &mut [u8]) -> FrameFed {
+    // SAFETY: Each pointer and its length come from one reference; the `&` is taken as `const`, and
+    // nobody else has what the `&mut` lends. Any numbers are a reader. The function always returns,
+    // does not unwind and keeps no pointer.
+    unsafe {
+        ffi::sanirvoq_frame_feed(
+            reader,
+            piece.as_ptr(),
+            piece.len(),
+            buffer.as_mut_ptr(),
+            buffer.len(),
+        )
+    }
+}
+
+/// Frames a reply; answers the number.
+pub fn frame_reply(sequence: u32, message: &[u8], buffer: &mut [u8]) -> u8 {
+    // SAFETY: As for `frame_feed`.
+    unsafe {
+        ffi::sanirvoq_frame_reply(
+            sequence,
+            message.as_ptr(),
+            message.len(),
+            buffer.as_mut_ptr(),
+            buffer.len(),
+        )
+    }
 }

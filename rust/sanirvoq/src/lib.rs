@@ -40,12 +40,14 @@
 pub mod call;
 #[allow(unsafe_code)]
 pub mod ffi;
+mod frame;
 mod image;
 mod message;
 mod refusal;
 mod stub;
 
-pub use ffi::Run;
+pub use ffi::{FrameReader, Run};
+pub use frame::{frame_reply, Answer, Answers, Frames, NotFramed};
 pub use image::{differences, NotCompared};
 pub use message::{read, write, Message, Reason};
 pub use refusal::Refusal;
@@ -57,3 +59,7 @@ pub const MESSAGE: usize = 10;
 pub const BLOCK: usize = 136;
 /// The bytes of the longest image that [`differences`] takes.
 pub const IMAGE: usize = 65_536;
+/// The bytes of the shortest buffer that [`Frames`] takes: the longest body and its checksum.
+pub const FRAME_BUFFER: usize = 534;
+/// The bytes of a framed reply.
+pub const FRAMED_REPLY: usize = 26;

@@ -63,7 +63,7 @@ returns-2 c =
     (later-zero _
     ∙ first .run .ensures .goes
     ∙ fed-answer _ _ (o .loop .reader) (o .loop .buffer) (o .loop .at) (o .loop .inv .2) (omega arith)
-        (t .transition .result)
+    (t .transition .result)
     (t .transition .ensures) (l .store .last .0) (l .store .ensures) (sym (a .is-answer .ensures) ∙ c .if2 .taken))
 
 add-run : tie.Need-add-run Inv-loop μ-loop

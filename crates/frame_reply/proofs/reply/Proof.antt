@@ -54,8 +54,14 @@ returns-4 c =
     let tests = parts .before in
     let f = reply-framed _ _ _ (tests .before .before .before .if1 .left) (tests .before .before .if2 .left)
     (tests .before .if3 .left) in
-    rw (ended .put2 .ensures, body .stuff2 .ensures, header .stuff .ensures, begun .put .ensures,
-    parts .body .ensures, tests .header .ensures) f
+    rw (
+      ended .put2 .ensures,
+      body .stuff2 .ensures,
+      header .stuff .ensures,
+      begun .put .ensures,
+      parts .body .ensures,
+      tests .header .ensures,
+    ) f
 
 pub reply-spec : {M : Type 1} → statement M
 reply-spec =

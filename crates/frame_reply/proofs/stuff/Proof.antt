@@ -41,15 +41,18 @@ loop-again c =
     let o = c .before .before .before .before .before .before .loop in
     let n = c .before .before .stuff-byte in
     let inside : o .i + 1 ≤ length (c .before .before .before .before .before .before .before .before .before .args
-        .src .now) = omega arith in (
+    .src .now) = omega arith in (
       inside,
       n .ensures .1 .0,
       omega arith,
       o .inv .3,
       omega arith,
-      o .inv .5 ∙ rw (add-one (o .i), drop-cons {A =
-          ℕ} (c .before .before .before .before .before .before .before .before .before .args .src .now) (o .i) 0
-          (omega arith)) (n .ensures .0 _),
+      o .inv .5 ∙ rw (
+        add-one (o .i),
+        drop-cons {A =
+            ℕ} (c .before .before .before .before .before .before .before .before .before .args .src .now) (o .i) 0
+            (omega arith),
+      ) (n .ensures .0 _),
     )
 
 same-length : tie.Need-same-length Inv-loop μ-loop

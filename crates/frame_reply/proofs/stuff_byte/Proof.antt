@@ -6,15 +6,25 @@ use Rattle.frame_reply.proofs.stuff_byte.Statement.{statement}
 use Rattle.frame_reply.proofs.stuff_byte.Tie as tie
 
 mul-v : tie.Need-mul-v
-mul-v c = record { fits = omega (arith, scaled (c .before .before .args .b) (c .before .before .args .s .scale)
-    (search needs) (search needs)) }
+mul-v c = record {
+  fits = omega (
+    arith,
+    scaled (c .before .before .args .b) (c .before .before .args .s .scale)
+        (search needs) (search needs),
+  );
+}
 
 cast-first : tie.Need-cast-first
 cast-first c = search needs
 
 add-first : tie.Need-add-first
-add-first c = record { fits = omega (arith, scaled (c .before .before .before .args .b)
-    (c .before .before .before .args .s .scale) (search needs) (search needs)) }
+add-first c = record {
+  fits = omega (
+    arith,
+    scaled (c .before .before .before .args .b)
+        (c .before .before .before .args .s .scale) (search needs) (search needs),
+  );
+}
 
 add-first-2 : tie.Need-add-first-2
 add-first-2 c = search needs
@@ -41,9 +51,14 @@ same-length : tie.Need-same-length
 same-length c = search needs
 
 returns : tie.Need-returns
-returns c = (λ l. rw (c .before .before .put2 .ensures, c .before .before .before .before .before .before .before
-    .before .put .ensures) (stuff-two _ _ _ _ _ (c .before .before .before .before .if1 .taken) l),
-    (omega arith, omega arith))
+returns c = (
+  λ l. rw (
+    c .before .before .put2 .ensures,
+    c .before .before .before .before .before .before .before
+        .before .put .ensures,
+  ) (stuff-two _ _ _ _ _ (c .before .before .before .before .if1 .taken) l),
+  (omega arith, omega arith),
+)
 
 add-t22 : tie.Need-add-t22
 add-t22 c = search needs
@@ -55,8 +70,11 @@ same-length-2 : tie.Need-same-length-2
 same-length-2 c = search needs
 
 returns-2 : tie.Need-returns-2
-returns-2 c = (λ l. rw (c .before .before .before .before .before .put .ensures) (stuff-one _ _ _ _ _
-    (c .before .if1 .left) l), (omega arith, omega arith))
+returns-2 c = (
+  λ l. rw (c .before .before .before .before .before .put .ensures) (stuff-one _ _ _ _ _
+      (c .before .if1 .left) l),
+  (omega arith, omega arith),
+)
 
 pub stuff-byte-spec : {M : Type 1} → statement M
 stuff-byte-spec =

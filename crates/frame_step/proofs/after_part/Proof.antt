@@ -19,7 +19,7 @@ unfolding afterPart
 returns c =
     let t = c .before in
     let g : isGood (t .before .before .args .r) ≡ false = sym (t .before .is-good .ensures)
-        ∙ not-true _ (t .if1 .taken) in
+    ∙ not-true _ (t .if1 .taken) in
     c .new .ensures ∙ rw g
 
 open-requires : tie.Need-open-requires

@@ -24,8 +24,12 @@ returns : tie.Need-returns
 unfolding byteComplete
 returns c =
     let n = c .before .before .before .before .before in
-    rw (c .before .after-part .ensures, c .part-answer .ensures, n .add .ensures,
-    le-leb _ _ (rw (n .add .ensures) at (c .before .before .if1 .taken)))
+    rw (
+      c .before .after-part .ensures,
+      c .part-answer .ensures,
+      n .add .ensures,
+      le-leb _ _ (rw (n .add .ensures) at (c .before .before .if1 .taken)),
+    )
 
 advance-requires : tie.Need-advance-requires
 advance-requires c κs = search needs

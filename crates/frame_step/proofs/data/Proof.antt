@@ -43,8 +43,12 @@ unfolding dataOf
 returns-3 c =
     let n = c .before .before .before in
     c .byte-complete .ensures
-    ∙ rw (c .before .before .shift2 .ensures, c .before .completed .ensures, le-ltb _ _ (n .before .before .if1 .left),
-    lt-leb _ _ (n .if2 .left))
+    ∙ rw (
+      c .before .before .shift2 .ensures,
+      c .before .completed .ensures,
+      le-ltb _ _ (n .before .before .if1 .left),
+      lt-leb _ _ (n .if2 .left),
+    )
 
 pub data-spec : {M : Type 1} → statement M
 data-spec =

@@ -46,8 +46,12 @@ returns-4 c =
     let n2 = n3 .before .before in
     let n1 = n2 .before .before in
     c .ending .ensures
-    ∙ rw (ne-eqb _ _ (n1 .if1 .left), ne-eqb _ _ (n2 .if2 .left), ne-eqb _ _ (n3 .if3 .left),
-    eq-eqb _ _ (c .before .if4 .taken))
+    ∙ rw (
+      ne-eqb _ _ (n1 .if1 .left),
+      ne-eqb _ _ (n2 .if2 .left),
+      ne-eqb _ _ (n3 .if3 .left),
+      eq-eqb _ _ (c .before .if4 .taken),
+    )
 
 silent-requires-2 : tie.Need-silent-requires-2
 silent-requires-2 c κs = search needs
@@ -59,8 +63,12 @@ returns-5 c =
     let n2 = n3 .before .before in
     let n1 = n2 .before .before in
     c .silent2 .ensures
-    ∙ rw (ne-eqb _ _ (n1 .if1 .left), ne-eqb _ _ (n2 .if2 .left), ne-eqb _ _ (n3 .if3 .left),
-    ne-eqb _ _ (c .before .if4 .left))
+    ∙ rw (
+      ne-eqb _ _ (n1 .if1 .left),
+      ne-eqb _ _ (n2 .if2 .left),
+      ne-eqb _ _ (n3 .if3 .left),
+      ne-eqb _ _ (c .before .if4 .left),
+    )
 
 pub transition-spec : {M : Type 1} → statement M
 transition-spec =

@@ -47,8 +47,13 @@ returns-3 c =
     let n = e .before .before .before .before in
     let b = n .before .before .before in
     let s = b .before .before .before .before in
-    rw (e .put .ensures, n .advance .ensures, n .before .add .ensures, n .before .before .shift2 .ensures,
-    b .completed .ensures)
+    rw (
+      e .put .ensures,
+      n .advance .ensures,
+      n .before .add .ensures,
+      n .before .before .shift2 .ensures,
+      b .completed .ensures,
+    )
     (stores-byte (s .args .r) (s .args .c) (s .pre) (b .before .if1 .left) (e .before .before .if2 .left) _)
 
 pub within-spec : {M : Type 1} → statement M
