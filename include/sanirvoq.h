@@ -99,10 +99,12 @@ enum sanirvoq_number {
     SANIRVOQ_STOPPED = 5,  /* a trap or state event of a Stopped process, or a state event with value 8 */
     SANIRVOQ_NO_SITE = 6,  /* a trap whose pc is at no breakpoint */
     SANIRVOQ_NO_MESSAGE = 7,
-    SANIRVOQ_IMAGES = 8,      /* images of unequal length, or longer than SANIRVOQ_IMAGE */
-    SANIRVOQ_RUN_LIST = 9,    /* a list that lacks room for the runs of differing bytes */
-    SANIRVOQ_NO_PACKET = 10,  /* a letter that no text packet has, or bytes that are no packet's text */
-    SANIRVOQ_TEXT_BUFFER = 11 /* a buffer shorter than SANIRVOQ_TEXT */
+    SANIRVOQ_IMAGES = 8,       /* images of unequal length, or longer than SANIRVOQ_IMAGE */
+    SANIRVOQ_RUN_LIST = 9,     /* a list that lacks room for the runs of differing bytes */
+    SANIRVOQ_NO_PACKET = 10,   /* a letter that no text packet has, or bytes that are no packet's text */
+    SANIRVOQ_TEXT_BUFFER = 11, /* a buffer shorter than SANIRVOQ_TEXT */
+    SANIRVOQ_FRAME = 12        /* a body buffer under SANIRVOQ_FRAME_BUFFER bytes, a framed reply not of
+                                * SANIRVOQ_FRAMED_REPLY, or a sequence past its byte */
 };
 
 /* What every step returns: the number in the lowest byte, then the three bytes of the answer. Where the number is not
@@ -304,6 +306,71 @@ struct sanirvoq_text_written sanirvoq_text_write(struct sanirvoq_text_packet pac
 /* Reads the packet whose text these bytes are: 0x and lower-case hex digits without leading zeros for a number, one
  * blank between fields, nothing after. Other bytes are number 10. */
 struct sanirvoq_text_found sanirvoq_text_read(const uint8_t *bytes, size_t length);
+
+/* ---- packets against noise (docs/PROTOCOL.md, Frames); needs no record ---- */
+
+enum {
+    SANIRVOQ_FRAME_BODY = 532,   /* bytes of the longest body */
+    SANIRVOQ_FRAME_BUFFER = 534, /* bytes of the shortest body buffer: a body and its checksum */
+    SANIRVOQ_FRAMED_REPLY = 26   /* bytes of a framed reply */
+};
+
+/* A reader between two bytes of the line: numbers only, and any numbers are one. Begin with sanirvoq_frame_reader. */
+struct sanirvoq_frame_reader {
+    uint64_t last;
+    uint32_t count;
+    uint32_t id;
+    uint16_t scale;
+    uint16_t size;
+    uint16_t sum;
+    uint8_t phase;
+    uint8_t held;
+};
+
+enum sanirvoq_frame_kind {
+    SANIRVOQ_FRAME_NOTHING = 0, /* the piece is used up */
+    SANIRVOQ_FRAME_PACKET = 1,
+    SANIRVOQ_FRAME_BAD_HEADER = 2,
+    SANIRVOQ_FRAME_BAD_BODY = 3
+};
+
+/* An answer. A packet has its logical ID, the size of its body, index and sequence of its ID, and request 1 where it is
+ * a request (CVK_HDR_DATA with a body of ten bytes). A bad body has index and sequence. Other fields are 0. */
+struct sanirvoq_frame_answer {
+    uint32_t id;
+    uint16_t size;
+    uint8_t kind;
+    uint8_t index;
+    uint8_t sequence;
+    uint8_t request;
+};
+
+/* The reader after a piece, how many bytes of it were taken, the answer, and number 0 or 12. */
+struct sanirvoq_frame_fed {
+    struct sanirvoq_frame_reader reader;
+    size_t taken;
+    struct sanirvoq_frame_answer answer;
+    uint8_t number;
+};
+
+SANIRVOQ_ASSERT(sizeof(struct sanirvoq_frame_reader) == 24, "the size of a frame reader");
+SANIRVOQ_ASSERT(sizeof(struct sanirvoq_frame_fed) == 48, "the size of what feeding gives");
+
+/* A reader that skips to the next 0x1d. */
+struct sanirvoq_frame_reader sanirvoq_frame_reader(void);
+
+/* Takes a piece of the line up to its first answer. The bytes of a body and its checksum go to the front of the buffer
+ * as each is complete; at a packet its body is the first answer.size bytes. Lend the same buffer until an answer, and
+ * leave it as it is. 12, with no byte taken and the reader as it was, where the buffer is under SANIRVOQ_FRAME_BUFFER
+ * bytes. */
+struct sanirvoq_frame_fed sanirvoq_frame_feed(struct sanirvoq_frame_reader reader, const uint8_t *piece,
+                                              size_t piece_length, uint8_t *buffer, size_t buffer_length);
+
+/* Frames ten bytes with the sequence of the request that they answer. Answers 0, or 2 where the message is not ten
+ * bytes, or 12 where the buffer is not SANIRVOQ_FRAMED_REPLY bytes or the sequence is over 255; then the buffer is as
+ * it was. */
+uint8_t sanirvoq_frame_reply(uint32_t sequence, const uint8_t *message, size_t message_length, uint8_t *buffer,
+                             size_t buffer_length);
 
 #ifdef __cplusplus
 }

@@ -99,6 +99,7 @@ check show_session python3 tests/show_session_test.py
 if [ -f rust/compare/Cargo.toml ]; then
     check compare_tests tests_of compare
     check compare crate run compare -- --seed 1 --steps 300000
+    check compare_frames crate run compare --bin frames -- --seed 1 --lines 100000 --damaged 100000
     check compare_valgrind under_valgrind rust/compare/target/release/compare --seed 2 --steps 3000
 fi
 [ ! -f rust/bench/Cargo.toml ] || check bench crate build bench

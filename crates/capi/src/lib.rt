@@ -3,6 +3,8 @@
 // Every exported step has one form: the record, the memory, the register area, a pid, a byte, an input and a reply.
 // What a step does not use it leaves as it is. A setup gives back a whole record, which is stored. All other steps go
 // through one function, `capi_lent::step`.
+use frame::Reader;
+use frame_fields::FedFields;
 use image_diff::Comparison;
 use step::StepKind;
 use target::Target;
@@ -13,6 +15,9 @@ use wire_fields::Fields;
 use wire_fields::Found;
 ghost use mathlib.Core.Path.{_≡_};
 ghost use Rattle.wire_fields.specs.Fields.{writeFields, foundBy};
+ghost use Rattle.frame.specs.Reader.{fresh};
+ghost use Rattle.frame_fields.specs.Fields.{fedSeen, fedSeenOf};
+ghost use Rattle.frame_reply.specs.Reply.{replied, replyOf};
 ghost use Rattle.image_diff.specs.Answer.{compared, differencesOf};
 ghost use Rattle.memory.specs.Head.{house};
 ghost use Rattle.capi_results.specs.Seen.{seen, seenOf, setupFrom};
@@ -171,4 +176,29 @@ pub extern "C" fn sanirvoq_text_read(bytes: &[u8]) -> FoundPacket
     ensures { λ r. ⌜ r ≡ foundText (readText (now (bytes .entry))) ⌝ }
 {
     text_packet_read::find(bytes)
+}
+
+// A reader of packets that skips to the next begin byte.
+#[no_mangle]
+pub extern "C" fn sanirvoq_frame_reader() -> Reader
+    ensures { λ r. ⌜ r ≡ fresh ⌝ }
+{
+    Reader::new()
+}
+
+// Feeds a piece of the line to a reader, up to the first answer; a body goes to the front of the buffer.
+#[no_mangle]
+pub extern "C" fn sanirvoq_frame_feed(reader: Reader, piece: &[u8], buffer: &mut [u8]) -> FedFields
+    ensures { λ r. ⌜ fedSeen r (now (buffer .exit)) ≡ fedSeenOf reader (now (piece .entry)) (now (buffer .entry)) ⌝ }
+{
+    frame_fields::feed(reader, piece, buffer)
+}
+
+// Frames a reply of ten bytes, with the sequence of its request, in 26.
+#[no_mangle]
+pub extern "C" fn sanirvoq_frame_reply(sequence: u32, message: &[u8], buffer: &mut [u8]) -> u8
+    ensures { λ r. ⌜ replied r (now (buffer .exit))
+        ≡ replyOf sequence (now (message .entry)) (now (buffer .entry)) ⌝ }
+{
+    frame_reply::reply(sequence, message, buffer)
 }

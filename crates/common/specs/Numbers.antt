@@ -49,3 +49,7 @@ noPacket = 10
 -- 02, Three: "a reply buffer under 34 bytes"
 abbrev pub shortText : ℕ
 shortText = 11
+
+-- 02, Nine: "A body buffer under 534 bytes, a reply's not 26, or a sequence past its field"
+abbrev pub wrongFrame : ℕ
+wrongFrame = 12

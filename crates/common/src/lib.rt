@@ -33,6 +33,8 @@ pub const NO_PACKET: u8 = 10;
 
 pub const SHORT_TEXT: u8 = 11;
 
+pub const WRONG_FRAME: u8 = 12;
+
 // A byte in four. Its contract carries the bound that a product needs.
 fn wide(x: u8) -> u32
     ensures { λ r. ⌜ (r ≡ x) × (r < 256) ⌝ }

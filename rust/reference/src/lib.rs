@@ -11,6 +11,7 @@
 mod book;
 mod condition;
 mod event;
+pub mod frame;
 mod image;
 mod list;
 mod message;

@@ -1,7 +1,7 @@
 //! The calls into the archive: the crate's only unsafe code. A step called so answers as the archive
 //! does, in one number; [`Stub`](crate::Stub) answers with enums.
 
-use crate::ffi::{self, Comparison, Fields, Found, Run, Target};
+use crate::ffi::{self, Comparison, Fields, Found, FrameFed, FrameReader, Run, Target};
 use crate::ffi::{TextFound, TextPacket, TextWritten};
 use crate::{BLOCK, MESSAGE};
 use core::slice;
@@ -169,4 +169,40 @@ pub fn text_read(bytes: &[u8]) -> TextFound {
     // SAFETY: The pointer and the length come from one reference, taken as `const`. The function
     // always returns, does not unwind and keeps no pointer.
     unsafe { ffi::sanirvoq_text_read(bytes.as_ptr(), bytes.len()) }
+}
+
+/// A reader of packets that skips to the next begin byte.
+pub fn frame_reader() -> FrameReader {
+    // SAFETY: The function takes nothing, always returns and does not unwind.
+    unsafe { ffi::sanirvoq_frame_reader() }
+}
+
+/// Feeds a piece of the line to a reader; answers as the archive does.
+pub fn frame_feed(reader: FrameReader, piece: &[u8], buffer: &mut [u8]) -> FrameFed {
+    // SAFETY: Each pointer and its length come from one reference; the `&` is taken as `const`, and
+    // nobody else has what the `&mut` lends. Any numbers are a reader. The function always returns,
+    // does not unwind and keeps no pointer.
+    unsafe {
+        ffi::sanirvoq_frame_feed(
+            reader,
+            piece.as_ptr(),
+            piece.len(),
+            buffer.as_mut_ptr(),
+            buffer.len(),
+        )
+    }
+}
+
+/// Frames a reply; answers the number.
+pub fn frame_reply(sequence: u32, message: &[u8], buffer: &mut [u8]) -> u8 {
+    // SAFETY: As for `frame_feed`.
+    unsafe {
+        ffi::sanirvoq_frame_reply(
+            sequence,
+            message.as_ptr(),
+            message.len(),
+            buffer.as_mut_ptr(),
+            buffer.len(),
+        )
+    }
 }

@@ -178,7 +178,62 @@ pub struct TextFound {
     pub packet: TextPacket,
 }
 
+/// A reader of packets between two bytes of the line: numbers only, and any numbers are one.
+#[repr(C)]
+#[derive(Debug, Clone, Copy, Default, PartialEq, Eq)]
+pub struct FrameReader {
+    /// The last eight bytes of a part, low-order first.
+    pub last: u64,
+    /// How many bytes of a part are complete.
+    pub count: u32,
+    /// The logical ID.
+    pub id: u32,
+    /// What the next seven bits are multiplied by.
+    pub scale: u16,
+    /// How many bytes a part has before its checksum.
+    pub size: u16,
+    /// The checksum so far.
+    pub sum: u16,
+    /// What is due: 1 header, 2 body, 3 the end; else the next begin byte.
+    pub phase: u8,
+    /// The bits of the next byte that are there.
+    pub held: u8,
+}
+
+/// An answer; see the header for which fields a kind uses.
+#[repr(C)]
+#[derive(Debug, Clone, Copy, Default, PartialEq, Eq)]
+pub struct FrameAnswer {
+    /// The logical ID.
+    pub id: u32,
+    /// The size of the body.
+    pub size: u16,
+    /// 0 nothing yet, 1 packet, 2 header bad, 3 body bad.
+    pub kind: u8,
+    /// The index of the logical ID.
+    pub index: u8,
+    /// The sequence of the logical ID.
+    pub sequence: u8,
+    /// 1 where a packet is a request.
+    pub request: u8,
+}
+
+/// What feeding gives.
+#[repr(C)]
+#[derive(Debug, Clone, Copy, Default, PartialEq, Eq)]
+pub struct FrameFed {
+    /// The reader after the piece.
+    pub reader: FrameReader,
+    /// How many bytes of the piece were taken.
+    pub taken: usize,
+    /// The answer.
+    pub answer: FrameAnswer,
+    /// 0 or 12.
+    pub number: u8,
+}
+
 // The layout, as the header asserts it.
+const _: () = assert!(size_of::<FrameReader>() == 24 && size_of::<FrameFed>() == 48);
 const _: () = assert!(size_of::<Target>() == 1324 && align_of::<Target>() == 4);
 const _: () = assert!(offset_of!(Target, table) == 68);
 const _: () = assert!(size_of::<Fields>() == 20);
@@ -246,4 +301,22 @@ unsafe extern "C" {
     pub fn sanirvoq_text_write(packet: TextPacket, buffer: *mut u8, length: usize) -> TextWritten;
     /// Reads a text packet.
     pub fn sanirvoq_text_read(bytes: *const u8, length: usize) -> TextFound;
+    /// A reader of packets that skips to the next begin byte.
+    pub fn sanirvoq_frame_reader() -> FrameReader;
+    /// Feeds a piece of the line to a reader, up to the first answer.
+    pub fn sanirvoq_frame_feed(
+        reader: FrameReader,
+        piece: *const u8,
+        piece_length: usize,
+        buffer: *mut u8,
+        buffer_length: usize,
+    ) -> FrameFed;
+    /// Frames a reply of ten bytes.
+    pub fn sanirvoq_frame_reply(
+        sequence: u32,
+        message: *const u8,
+        message_length: usize,
+        buffer: *mut u8,
+        buffer_length: usize,
+    ) -> u8;
 }

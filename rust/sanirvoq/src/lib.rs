@@ -41,13 +41,15 @@
 pub mod call;
 #[allow(unsafe_code)]
 pub mod ffi;
+mod frame;
 mod image;
 mod message;
 mod refusal;
 mod stub;
 mod text;
 
-pub use ffi::{Run, TextPacket};
+pub use ffi::{FrameReader, Run, TextPacket};
+pub use frame::{frame_reply, Answer, Answers, Frames, NotFramed};
 pub use image::{differences, NotCompared};
 pub use message::{read, write, Message, Reason};
 pub use refusal::Refusal;
@@ -62,3 +64,7 @@ pub const BLOCK: usize = 136;
 pub const IMAGE: usize = 65_536;
 /// The bytes of the longest text of a packet, which the buffer of [`write_text`] must have.
 pub const TEXT: usize = 34;
+/// The bytes of the shortest buffer that [`Frames`] takes: the longest body and its checksum.
+pub const FRAME_BUFFER: usize = 534;
+/// The bytes of a framed reply.
+pub const FRAMED_REPLY: usize = 26;
