@@ -82,6 +82,7 @@ check steps tests_of steps
 check show_session python3 tests/show_session_test.py
 [ ! -x target/bin/program_main ] || check protocol_examples python3 tests/protocol_examples.py
 [ ! -f tests/wire_vectors.py ] || check wire_vectors python3 tests/wire_vectors.py --check
+[ ! -f tests/frame_vectors.py ] || check frame_vectors python3 tests/frame_vectors.py --check
 [ ! -f tests/program_vectors.py ] || check program_vectors python3 tests/program_vectors.py --check
 if [ -f rust/compare/Cargo.toml ]; then
     check compare_tests tests_of compare
