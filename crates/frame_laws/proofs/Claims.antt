@@ -19,12 +19,13 @@ use Rattle.frame_reply.specs.Reply.{replySize, sequenceMost, replyNumber, reply
 use Rattle.frame_laws.specs.Claims.{Stuffing, NoBegin, Sendable, ReadWhole, OneFraming, Frames}
 use Rattle.frame_laws.proofs.Bits.{unstuff-stuffed}
 use Rattle.frame_laws.proofs.Unstuffing.{stuff-unstuffed, unstuffed-bytes}
+use Rattle.frame_laws.proofs.Wellstuffed.{well-stuffed}
 use Rattle.frame_laws.proofs.Packet.{storedOf, begin-read, packet-read, packet-alone}
 use Rattle.frame_laws.proofs.Framing.{framed-is}
 use Rattle.frame_laws.proofs.Pieces.{any-cutting}
 
 stuffing : Stuffing
-stuffing = record { unstuffs = unstuff-stuffed; stuffs = stuff-unstuffed; bytes = unstuffed-bytes }
+stuffing = record { well = well-stuffed; unstuffs = unstuff-stuffed; stuffs = stuff-unstuffed; bytes = unstuffed-bytes }
 
 from-any-reader : (r : Reader) (buffer line : List ℕ)
     → feedOf r buffer (beginByte ∷ line) ≡ feedOf fresh buffer (beginByte ∷ line)

@@ -109,7 +109,7 @@ later-suc : (n : ℕ) (o : Outcome) → later 1 (later n o) ≡ later (suc n) o
 later-suc n o = let z : 1 + (n + o .taken) ≡ suc n + o .taken = omega arith in rw z
 
 -- the bits after the last stuffed byte are zero
-none : {w m : ℕ} → Position w m → (x : ℕ) → x < 256 → (128 + x * (w * 2) % 128) % 128 * m % 256 ≡ 0
+pub none : {w m : ℕ} → Position w m → (x : ℕ) → x < 256 → (128 + x * (w * 2) % 128) % 128 * m % 256 ≡ 0
 none first x h = omega arith
 none second x h = omega arith
 none third x h = omega arith

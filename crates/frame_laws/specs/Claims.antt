@@ -18,6 +18,7 @@ use Rattle.frame_laws.specs.Answers.{answersFrom, answersInPieces}
 
 -- "State the bit-stuffing law once over any list of bytes, both ways"
 pub record Stuffing : Type 0 where
+  pub well : (bs : List ℕ) → Bytes bs → wellStuffed (stuffed bs) ≡ true
   pub unstuffs : (bs : List ℕ) → Bytes bs → unstuffed (stuffed bs) ≡ bs
   pub stuffs : (cs : List ℕ) → wellStuffed cs ≡ true → stuffed (unstuffed cs) ≡ cs
   pub bytes : (cs : List ℕ) → wellStuffed cs ≡ true → Bytes (unstuffed cs)
