@@ -95,6 +95,7 @@ check show_session python3 tests/show_session_test.py
 [ ! -x target/bin/calls_main ] || check calls_examples python3 tests/calls_examples.py
 [ ! -f tests/calls_vectors.py ] || check calls_vectors python3 tests/calls_vectors.py --check
 [ ! -f tests/wire_vectors.py ] || check wire_vectors python3 tests/wire_vectors.py --check
+[ ! -f tests/frame_vectors.py ] || check frame_vectors python3 tests/frame_vectors.py --check
 [ ! -f tests/program_vectors.py ] || check program_vectors python3 tests/program_vectors.py --check
 if [ -f rust/compare/Cargo.toml ]; then
     check compare_tests tests_of compare

@@ -16,14 +16,16 @@ use Rattle.frame.specs.Feeding.{Outcome, stored, feedOf, callOf}
 use Rattle.frame.specs.declared.Reader.{Reader}
 use Rattle.frame.specs.declared.Answer.the-variants.{Packet}
 use Rattle.frame_reply.specs.Reply.{replySize, sequenceMost, replyNumber, replyOf}
-use Rattle.frame_laws.specs.Claims.{Stuffing, Sendable, ReadWhole, Frames}
+use Rattle.frame_laws.specs.Claims.{Stuffing, NoBegin, Sendable, ReadWhole, OneFraming, Frames}
 use Rattle.frame_laws.proofs.Bits.{unstuff-stuffed}
 use Rattle.frame_laws.proofs.Unstuffing.{stuff-unstuffed, unstuffed-bytes}
-use Rattle.frame_laws.proofs.Packet.{storedOf, packet-read}
+use Rattle.frame_laws.proofs.Wellstuffed.{well-stuffed}
+use Rattle.frame_laws.proofs.Packet.{storedOf, begin-read, packet-read, packet-alone}
+use Rattle.frame_laws.proofs.Framing.{framed-is}
 use Rattle.frame_laws.proofs.Pieces.{any-cutting}
 
 stuffing : Stuffing
-stuffing = record { unstuffs = unstuff-stuffed; stuffs = stuff-unstuffed; bytes = unstuffed-bytes }
+stuffing = record { well = well-stuffed; unstuffs = unstuff-stuffed; stuffs = stuff-unstuffed; bytes = unstuffed-bytes }
 
 from-any-reader : (r : Reader) (buffer line : List ℕ)
     → feedOf r buffer (beginByte ∷ line) ≡ feedOf fresh buffer (beginByte ∷ line)
@@ -50,12 +52,35 @@ read-back : (id : ℕ) (body : List ℕ) → Sendable id body → (r : Reader) (
     → bufferLeast ≤ length buffer → ReadWhole r id body buffer
 unfolding callOf
 read-back id body s r buffer h =
-    let p = packet-read id (s .id-fits) body (s .bytes) (s .length-fits) r buffer in
+    let p = packet-alone id (s .id-fits) body (s .bytes) (s .length-fits) r buffer in
     record {
       after = sets buffer 0 (storedOf body);
       said = rw (le-ltb (length buffer) bufferLeast h, p);
       lent = lent-body body buffer (omega (arith, s .length-fits));
       same-size = length-sets buffer 0 (storedOf body);
+    }
+
+-- ---- what is answered packet is framed
+
+one-framing : (r : Reader) (buffer line : List ℕ) (id size : ℕ) → Bytes line → NoBegin line
+    → feedOf r buffer (beginByte ∷ line) .answer ≡ Packet id size → OneFraming r buffer line id size
+one-framing r buffer line id size by nb a =
+    let start = begin-read 0 (omega arith) r buffer line in
+    let f = framed-is line by nb buffer id size (sym (ap (λ (o : Outcome). o .answer) start) ∙ a) in
+    let s = f .sendable in
+    let p = packet-read id (s .id-fits) (f .body) (s .bytes) (s .length-fits) r buffer (f .rest) in
+    let o = ap (feedOf r buffer) (f .whole) ∙ p in
+    record {
+      body = f .body;
+      rest = f .rest;
+      sendable = s;
+      sized = f .size;
+      whole = f .whole;
+      taken = ap (λ (x : Outcome). x .taken) o;
+      lent = λ h.
+          ap (λ (x : Outcome). take size (x .buffer)) o
+          ∙ ap (λ (m : ℕ). take m (sets buffer 0 (storedOf (f .body)))) (sym (f .size))
+          ∙ lent-body (f .body) buffer (omega (arith, s .length-fits, h));
     }
 
 -- ---- no two messages have the same bytes
@@ -69,8 +94,8 @@ room-size = omega (arith, length-replicate {A = ℕ} bufferLeast 0)
 
 one-message : (i j : ℕ) (a b : List ℕ) → Sendable i a → Sendable j b → framed i a ≡ framed j b → (i ≡ j) × (a ≡ b)
 one-message i j a b s t e =
-    let p = packet-read i (s .id-fits) a (s .bytes) (s .length-fits) fresh room in
-    let q = packet-read j (t .id-fits) b (t .bytes) (t .length-fits) fresh room in
+    let p = packet-alone i (s .id-fits) a (s .bytes) (s .length-fits) fresh room in
+    let q = packet-alone j (t .id-fits) b (t .bytes) (t .length-fits) fresh room in
     let o = rw e at p in
     let same : Packet i (length a) ≡ Packet j (length b) = ap (λ (x : Outcome). x .answer) (sym o ∙ q) in
     let kept : sets room 0 (storedOf a) ≡ sets room 0 (storedOf b) = ap (λ (x : Outcome). x .buffer) (sym o ∙ q) in
@@ -107,6 +132,7 @@ frames =
       from-any-reader = from-any-reader;
       any-cutting = λ sizes r buffer line. any-cutting sizes 0 r buffer line;
       read-back = read-back;
+      one-framing = one-framing;
       one-message = one-message;
       reply-read-back = λ sequence message room h k e l r buffer n. (
         reply-written sequence message room h e l,

@@ -1,7 +1,7 @@
 -- What a definition of writing gives is read back. Assumes nothing.
-use mathlib.Core.Path.{_≡_, refl, ap, _∙_}
+use mathlib.Core.Path.{_≡_, refl, sym, ap, _∙_}
 use mathlib.Core.Bool.{Bool, true, false, not, cond, _||_}
-use mathlib.Core.List.{List, [], _∷_, _++_}
+use mathlib.Core.List.{List, [], _∷_, _++_, append-assoc, append-nil}
 use Prim.Native.Nat.{ℕ, suc, _+_, _*_, _/_, _%_, _<_, _≤_}
 use native.Mathlib.Numerals.{add-one}
 use native.Mathlib.Omega.{arith}
@@ -252,7 +252,7 @@ module _ (id : ℕ) (small : id < 0x100000000) where
     right : lengthRight inHeader word ≡ true
     right = rw (length-is, le-leb n bodyMost short)
 
-    header-read : (buffer rest : List ℕ)
+    pub header-read : (buffer rest : List ℕ)
         → feedOf begun buffer (stuffed (checked (headerOf id n)) ++ rest)
         ≡ later (length (stuffed (checked (headerOf id n)))) (feedOf (startOf (phaseAfterHeader n) n id) buffer rest)
     unfolding headerOf lowFirst pushedAll afterPart
@@ -271,41 +271,51 @@ module _ (id : ℕ) (small : id < 0x100000000) where
 
   -- the end byte
   module _ (r : Reader) (buffer : List ℕ) where
-    pub end-read : r .phase ≡ beforeEnd → feedOf r buffer (endByte ∷ [])
-        ≡ outcome 1 (Packet (r .id) (r .size)) fresh buffer
+    pub end-read : (rest : List ℕ) → r .phase ≡ beforeEnd
+        → feedOf r buffer (endByte ∷ rest) ≡ outcome 1 (Packet (r .id) (r .size)) fresh buffer
     unfolding feedOf transitionOf endOf stored
-    end-read e = rw e
+    end-read rest e = rw e
 
     pub begin-read : (l : List ℕ) → feedOf r buffer (beginByte ∷ l) ≡ later 1 (feedOf begun buffer l)
     unfolding feedOf transitionOf stored
     begin-read l = refl
 
-  body-read : (body : List ℕ) → Bytes body → length body ≤ bodyMost → (buffer : List ℕ)
-      → feedOf (startOf (phaseAfterHeader (length body)) (length body) id) buffer (bodyPart body ++ (endByte ∷ []))
+  body-read : (body : List ℕ) → Bytes body → length body ≤ bodyMost → (buffer rest : List ℕ)
+      → feedOf (startOf (phaseAfterHeader (length body)) (length body) id) buffer (bodyPart body ++ (endByte ∷ rest))
       ≡ outcome (length (bodyPart body) + 1) (Packet id (length body)) fresh (sets buffer 0 (storedOf body))
   unfolding phaseAfterHeader bodyPart storedOf checked afterPart
-  body-read [] bytes short buffer = end-read (startOf beforeEnd 0 id) buffer refl
-  body-read (b ∷ bs) bytes short buffer =
+  body-read [] bytes short buffer rest = end-read (startOf beforeEnd 0 id) buffer rest refl
+  body-read (b ∷ bs) bytes short buffer rest =
       let last = partLast inBody id b bs in
       let kept = sets buffer 0 (checked (b ∷ bs)) in
       let some : eqb (suc (length bs)) 0 ≡ false = ne-eqb (suc (length bs)) 0 (λ e. omega arith) in
       rw some
-      (part-through inBody id b bs bytes refl refl buffer (endByte ∷ [])
+      (part-through inBody id b bs bytes refl refl buffer (endByte ∷ rest)
       ∙ rw (
         part-good inBody id b bs bytes refl,
         kept-body (bs ++ lowFirst 2 (checksumOf (b ∷ bs))) (partStart inBody id b bs) b buffer refl,
-        end-read (ended last) kept refl,
+        end-read (ended last) kept rest refl,
       ))
 
-  pub packet-read : (body : List ℕ) → Bytes body → length body ≤ bodyMost → (r : Reader) (buffer : List ℕ)
-      → feedOf r buffer (framed id body)
+  -- a packet, whatever follows it on the line
+  pub packet-read : (body : List ℕ) → Bytes body → length body ≤ bodyMost → (r : Reader) (buffer rest : List ℕ)
+      → feedOf r buffer (framed id body ++ rest)
       ≡ outcome (length (framed id body)) (Packet id (length body)) fresh (sets buffer 0 (storedOf body))
   unfolding framed
-  packet-read body bytes short r buffer =
+  packet-read body bytes short r buffer rest =
       let h = stuffed (checked (headerOf id (length body))) in
-      let rest = bodyPart body ++ (endByte ∷ []) in
-      let n : suc (length (h ++ rest)) ≡ 1 + (length h + (length (bodyPart body) + 1)) =
-      omega (arith, length-append h rest, length-append (bodyPart body) (endByte ∷ [])) in
-      begin-read r buffer (h ++ rest)
-      ∙ ap (later 1) (header-read (length body) short buffer rest)
-      ∙ rw (body-read body bytes short buffer, n)
+      let b = bodyPart body in
+      let n : suc (length (h ++ (b ++ (endByte ∷ [])))) ≡ 1 + (length h + (length b + 1)) =
+      omega (arith, length-append h (b ++ (endByte ∷ [])), length-append b (endByte ∷ [])) in
+      let l : (h ++ (b ++ (endByte ∷ []))) ++ rest ≡ h ++ (b ++ (endByte ∷ rest)) =
+      append-assoc h (b ++ (endByte ∷ [])) rest ∙ ap (λ (t : List ℕ). h ++ t) (append-assoc b (endByte ∷ []) rest) in
+      begin-read r buffer ((h ++ (b ++ (endByte ∷ []))) ++ rest)
+      ∙ ap (λ (t : List ℕ). later 1 (feedOf begun buffer t)) l
+      ∙ ap (later 1) (header-read (length body) short buffer (b ++ (endByte ∷ rest)))
+      ∙ rw (body-read body bytes short buffer rest, n)
+
+  pub packet-alone : (body : List ℕ) → Bytes body → length body ≤ bodyMost → (r : Reader) (buffer : List ℕ)
+      → feedOf r buffer (framed id body)
+      ≡ outcome (length (framed id body)) (Packet id (length body)) fresh (sets buffer 0 (storedOf body))
+  packet-alone body bytes short r buffer =
+      ap (feedOf r buffer) (sym (append-nil (framed id body))) ∙ packet-read body bytes short r buffer []

@@ -93,7 +93,7 @@ keptFrom r x (y ∷ l) buffer = keptFrom (counted (added r x)) y l (keep r x buf
 
 module _ (r : Reader) (m left c x a : ℕ) (p : InPart r) (h : 128 ≤ c) (k : 2 < m)
     (e : (left + c % 128 * m / 256) % 256 ≡ x) (f : c % 128 * m % 256 ≡ a) (buffer cs : List ℕ) where
-  turn-on : r .count ≤ r .size
+  pub turn-on : r .count ≤ r .size
       → feedOf (with-bits r m left) buffer (c ∷ cs)
       ≡ later 1 (feedOf (with-bits (counted (added r x)) (scaleAfter m) a) (keep r x buffer) cs)
   unfolding feedOf stored
@@ -109,7 +109,7 @@ later-suc : (n : ℕ) (o : Outcome) → later 1 (later n o) ≡ later (suc n) o
 later-suc n o = let z : 1 + (n + o .taken) ≡ suc n + o .taken = omega arith in rw z
 
 -- the bits after the last stuffed byte are zero
-none : {w m : ℕ} → Position w m → (x : ℕ) → x < 256 → (128 + x * (w * 2) % 128) % 128 * m % 256 ≡ 0
+pub none : {w m : ℕ} → Position w m → (x : ℕ) → x < 256 → (128 + x * (w * 2) % 128) % 128 * m % 256 ≡ 0
 none first x h = omega arith
 none second x h = omega arith
 none third x h = omega arith
@@ -125,7 +125,7 @@ Through w m x l = (r : Reader) (buffer rest : List ℕ) → InPart r → r .coun
     (keptFrom r x l buffer) rest)
 
 -- the first of eight stuffed bytes completes none
-starts : (r : Reader) (left c a : ℕ) → InPart r → 128 ≤ c → c % 128 * 2 % 256 ≡ a → (buffer cs : List ℕ)
+pub starts : (r : Reader) (left c a : ℕ) → InPart r → 128 ≤ c → c % 128 * 2 % 256 ≡ a → (buffer cs : List ℕ)
     → feedOf (with-bits r 2 left) buffer (c ∷ cs) ≡ later 1 (feedOf (with-bits r 4 a) buffer cs)
 unfolding feedOf stored dataOf scaleAfter
 starts r left c a p h f buffer cs = rw (due (with-bits r 2 left) c p h, le-ltb c 128 h, f)

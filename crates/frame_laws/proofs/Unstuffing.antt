@@ -169,10 +169,10 @@ never e = let z : _≡_ {A = ℕ} 0 1 = cc in omega arith
 
 -- the seventh and the eighth stuffed byte: the eighth completes the byte y with its seven bits
 module _ (l c e : ℕ) (h : Held 128 l) (a : 128 ≤ c) (b : c ≤ 255) (k : 128 ≤ e) (n : e ≤ 255) where
-  abbrev y : ℕ
+  abbrev pub y : ℕ
   y = completed 256 (heldAfter 128 c) e
 
-  y-small : (y < 256) × (y / 128 * 128 ≡ heldAfter 128 c) × (128 + y % 128 ≡ e)
+  pub y-small : (y < 256) × (y / 128 * 128 ≡ heldAfter 128 c) × (128 + y % 128 ≡ e)
   y-small =
       let u : heldAfter 128 c ≡ c % 2 * 128 = omega arith in
       let v : e % 128 * 256 / 256 ≡ e % 128 = omega arith in

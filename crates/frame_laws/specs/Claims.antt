@@ -3,7 +3,7 @@
 use Prim.Native.Nat.{ℕ, _<_, _≤_}
 use mathlib.Core.Path.{_≡_}
 use mathlib.Core.Bool.{true}
-use mathlib.Core.List.{List, _∷_}
+use mathlib.Core.List.{List, [], _∷_, _++_}
 use lib.ListN.{length}
 use Rattle.common.specs.Bytes.{Bytes}
 use Rattle.common.specs.Numbers.{accepted}
@@ -18,9 +18,15 @@ use Rattle.frame_laws.specs.Answers.{answersFrom, answersInPieces}
 
 -- "State the bit-stuffing law once over any list of bytes, both ways"
 pub record Stuffing : Type 0 where
+  pub well : (bs : List ℕ) → Bytes bs → wellStuffed (stuffed bs) ≡ true
   pub unstuffs : (bs : List ℕ) → Bytes bs → unstuffed (stuffed bs) ≡ bs
   pub stuffs : (cs : List ℕ) → wellStuffed cs ≡ true → stuffed (unstuffed cs) ≡ cs
   pub bytes : (cs : List ℕ) → wellStuffed cs ≡ true → Bytes (unstuffed cs)
+
+-- no 0x1d is among these bytes
+unfoldable pub NoBegin : List ℕ → Type 0
+NoBegin [] = Unit
+NoBegin (c ∷ cs) = (c ≡ beginByte → ⊥) × NoBegin cs
 
 -- a logical ID of four bytes and a body of at most 532 bytes
 pub record Sendable (id : ℕ) (body : List ℕ) : Type 0 where
@@ -37,6 +43,17 @@ pub record ReadWhole (reader : Reader) (id : ℕ) (body buffer : List ℕ) : Typ
   pub lent : bodyOf (Packet id (length body)) after ≡ body
   pub same-size : length after ≡ length buffer
 
+-- what is answered packet with this logical ID and size is, from its begin byte to the answer, the framed form of one
+-- message, and that message's body is lent back
+pub record OneFraming (r : Reader) (buffer line : List ℕ) (id size : ℕ) : Type 0 where
+  pub body : List ℕ
+  pub rest : List ℕ
+  pub sendable : Sendable id body
+  pub sized : length body ≡ size
+  pub whole : beginByte ∷ line ≡ framed id body ++ rest
+  pub taken : feedOf r buffer (beginByte ∷ line) .taken ≡ length (framed id body)
+  pub lent : bufferLeast ≤ length buffer → bodyOf (Packet id size) (feedOf r buffer (beginByte ∷ line) .buffer) ≡ body
+
 pub record Frames : Type 0 where
   pub stuffing : Stuffing
   -- "A 0x1d always begins anew": "From any reader, a whole good packet is read as from a fresh one", and so is whatever
@@ -49,6 +66,9 @@ pub record Frames : Type 0 where
   -- every packet that the definition of writing gives is read back, by any reader
   pub read-back : (id : ℕ) (body : List ℕ) → Sendable id body → (r : Reader) (buffer : List ℕ)
       → bufferLeast ≤ length buffer → ReadWhole r id body buffer
+  -- each message has one framed set of bytes: no others are answered packet
+  pub one-framing : (r : Reader) (buffer line : List ℕ) (id size : ℕ) → Bytes line → NoBegin line
+      → feedOf r buffer (beginByte ∷ line) .answer ≡ Packet id size → OneFraming r buffer line id size
   -- no two messages have the same bytes on the line
   pub one-message : (i j : ℕ) (a b : List ℕ) → Sendable i a → Sendable j b → framed i a ≡ framed j b
       → (i ≡ j) × (a ≡ b)
