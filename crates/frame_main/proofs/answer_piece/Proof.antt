@@ -8,7 +8,8 @@ use Rattle.frame_main.proofs.answer_piece.Statement.{statement}
 use Rattle.frame_main.proofs.answer_piece.Tie as tie
 
 abbrev Inv-loop : tie.InvT-loop
-Inv-loop piece buffer₀ reader₀ at₀ turns₀ buffer reader at turns = (at ≤ length piece) × (length buffer ≡ length buffer₀)
+Inv-loop piece buffer₀ reader₀ at₀ turns₀ buffer reader at turns = (at ≤ length piece) × (length buffer
+    ≡ length buffer₀)
 
 abbrev μ-loop : tie.MeasureT-loop
 μ-loop piece buffer₀ reader₀ at₀ turns₀ buffer reader at turns = turns

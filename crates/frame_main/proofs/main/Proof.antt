@@ -6,7 +6,8 @@ use Rattle.frame_main.proofs.main.Statement.{statement}
 use Rattle.frame_main.proofs.main.Tie as tie
 
 abbrev Inv-loop : tie.InvT-loop
-Inv-loop input₀ buffer₀ reader₀ turns₀ have₀ input buffer reader turns have = (length input ≡ 100) × (length buffer ≡ 534)
+Inv-loop input₀ buffer₀ reader₀ turns₀ have₀ input buffer reader turns have = (length input ≡ 100) × (length buffer
+    ≡ 534)
 
 abbrev μ-loop : tie.MeasureT-loop
 μ-loop input₀ buffer₀ reader₀ turns₀ have₀ input buffer reader turns have = turns
