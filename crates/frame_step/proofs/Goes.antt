@@ -1,6 +1,6 @@
 -- The transition at a byte of stuffed data after which its part goes on. Assumes nothing.
 use mathlib.Core.Path.{_≡_, refl, _∙_}
-use mathlib.Core.Bool.{Bool, true, false, _&&_, _||_}
+use mathlib.Core.Bool.{Bool, true, false, cond, _&&_, _||_}
 use mathlib.Core.List.{List}
 use Prim.Native.Nat.{ℕ, _+_, _<_, _≤_}
 use native.Mathlib.Omega.{arith}
@@ -8,12 +8,33 @@ use borrow.Author.Tests.{leb-true, le-ltb, lt-leb, le-leb, ne-eqb, eq-eqb}
 use lib.Dec.{eqb, leb}
 use lib.ListN.{set}
 use Rattle.common.proofs.Cases.{on-test}
+use Rattle.frame.specs.Packet.{beginByte}
 use Rattle.frame.specs.Stuffing.{completed}
-use Rattle.frame.specs.Reader.{inBody, shifted, added, counted, silent, byteComplete, dataOf, transitionOf}
+use Rattle.frame.specs.Reader.{inHeader, inBody, beforeEnd, endOf, shifted, added, counted, silent, byteComplete}
+use Rattle.frame.specs.Reader.{dataOf, transitionOf}
 use Rattle.frame.specs.Feeding.{stored}
 use Rattle.frame.specs.declared.Reader.{Reader}
 use Rattle.frame.specs.declared.Answer.the-variants.{Nothing}
-use Rattle.frame_step.specs.Within.{goesOn, Continues}
+use Rattle.frame_step.specs.Within.{inPart, goesOn, Continues}
+
+never : true ≡ false → ⊥
+never e = let z : _≡_ {A = ℕ} 0 1 = cc in omega arith
+
+-- where stuffed data is due, and where it is not
+module _ (r : Reader) (c : ℕ) (k : c ≡ beginByte → ⊥) where
+  pub due : inPart r ≡ true → transitionOf r c ≡ dataOf r c
+  unfolding transitionOf
+  due p =
+      on-test (eqb (r .phase) inHeader)
+      (λ e. rw (ne-eqb c beginByte k, e))
+      (λ e. let q : eqb (r .phase) inBody ≡ true = rw e at p in rw (ne-eqb c beginByte k, e, q))
+
+  pub not-due : inPart r ≡ false → transitionOf r c ≡ cond (eqb (r .phase) beforeEnd) (endOf r c) (silent r)
+  unfolding transitionOf
+  not-due p =
+      on-test (eqb (r .phase) inHeader)
+      (λ e. absurd (never (rw e at p)))
+      (λ e. let q : eqb (r .phase) inBody ≡ false = rw e at p in rw (ne-eqb c beginByte k, e, q))
 
 -- a test of three parts
 three : (a b c : Bool) → (a && (b && c)) ≡ true → (a ≡ true) × (b ≡ true) × (c ≡ true)
@@ -33,12 +54,7 @@ module _ (r : Reader) (c : ℕ) (w : goesOn r c ≡ true) where
   more = leb-true (r .count) (r .size) (tests .1)
 
   is-data : transitionOf r c ≡ dataOf r c
-  unfolding transitionOf
-  is-data =
-      let z : eqb c 29 ≡ false = ne-eqb c 29 (λ e. omega (arith, high)) in
-      on-test (eqb (r .phase) 1)
-      (λ e. rw (z, e))
-      (λ e. let q : eqb (r .phase) 2 ≡ true = rw e at (tests .2) in rw (z, e, q))
+  is-data = due r c (λ e. omega (arith, high)) (tests .2)
 
   -- the first of eight stuffed bytes
   pub first-byte : r .scale ≤ 2 → (buffer : List ℕ) → Continues r c (shifted r c) buffer buffer

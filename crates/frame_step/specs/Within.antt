@@ -9,9 +9,13 @@ use Rattle.frame.specs.Feeding.{stored}
 use Rattle.frame.specs.declared.Reader.{Reader}
 use Rattle.frame.specs.declared.Answer.the-variants.{Nothing}
 
+-- stuffed data is due
+abbrev pub inPart : Reader → Bool
+inPart r = eqb (r .phase) inHeader || eqb (r .phase) inBody
+
 -- its high bit is set, the last byte of the part is not due, and stuffed data is
 unfoldable pub goesOn : Reader → ℕ → Bool
-goesOn r c = leb 128 c && (leb (r .count) (r .size) && (eqb (r .phase) inHeader || eqb (r .phase) inBody))
+goesOn r c = leb 128 c && (leb (r .count) (r .size) && inPart r)
 
 -- n is the reader after it, where nothing is answered
 pub record Continues (r : Reader) (c : ℕ) (n : Reader) (before after : List ℕ) : Type 0 where

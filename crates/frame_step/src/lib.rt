@@ -10,7 +10,7 @@ ghost use Rattle.frame.specs.Stuffing.{scaleAfter, completed};
 ghost use Rattle.frame.specs.Reader.{shifted, sumAfter, added, counted, badAnswer, isGood, ended};
 ghost use Rattle.frame.specs.Reader.{phaseAfterHeader, opened, afterPart, partAnswer, silent, answering};
 ghost use Rattle.frame.specs.Reader.{byteComplete, dataOf, endOf, transitionOf};
-ghost use Rattle.frame_step.specs.Within.{goesOn, Continues};
+ghost use Rattle.frame_step.specs.Within.{inPart, goesOn, Continues};
 
 // Where a header's length and checksum, and the last byte, stand in the last eight bytes.
 const LENGTH: u64 = 0x100000000;
@@ -280,6 +280,16 @@ fn ending(r: Reader, c: u8) -> Transition
     answering(bad_answer(r))
 }
 
+// Whether stuffed data is due.
+fn in_part(r: Reader) -> bool
+    ensures { λ b. ⌜ b ≡ inPart r ⌝ }
+{
+    if r.phase == frame::IN_HEADER {
+        return true;
+    }
+    r.phase == frame::IN_BODY
+}
+
 // One byte of the line.
 pub fn transition(r: Reader, c: u8) -> Transition
     ensures { λ t. ⌜ t ≡ transitionOf r c ⌝ }
@@ -287,10 +297,7 @@ pub fn transition(r: Reader, c: u8) -> Transition
     if c == frame::BEGIN {
         return silent(Reader::begun());
     }
-    if r.phase == frame::IN_HEADER {
-        return data(r, c);
-    }
-    if r.phase == frame::IN_BODY {
+    if in_part(r) {
         return data(r, c);
     }
     if r.phase == frame::BEFORE_END {
@@ -309,10 +316,7 @@ pub fn goes_on(r: Reader, c: u8) -> bool
     if (r.size as u32) < r.count {
         return false;
     }
-    if r.phase == frame::IN_HEADER {
-        return true;
-    }
-    r.phase == frame::IN_BODY
+    in_part(r)
 }
 
 // Stores a byte of a body, where the buffer has the place: a reader of any content may name another.

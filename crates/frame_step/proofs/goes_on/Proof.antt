@@ -1,5 +1,6 @@
 -- `frame_step::goes_on` meets its contract. Assumes nothing.
-use borrow.Author.Tests.{eq-eqb, ne-eqb, le-leb, lt-leb}
+use mathlib.Core.Path.{_∙_}
+use borrow.Author.Tests.{le-leb, lt-leb}
 use Rattle.frame_step.specs.Within.{goesOn}
 use borrow.Author.Needs.{needs}
 use Rattle.frame_step.proofs.goes_on.Statement.{statement}
@@ -17,20 +18,15 @@ unfolding goesOn
 returns-2 c =
     let l = c .before .before .before in simp (le-leb _ _ (l .if1 .left), lt-leb _ _ (c .if2 .taken))
 
+in-part-requires : tie.Need-in-part-requires
+in-part-requires c κs = search needs
+
 returns-3 : tie.Need-returns-3
 unfolding goesOn
 returns-3 c =
-    let m = c .before .before in
+    let m = c .before in
     let l = m .before .before .before in
-    simp (le-leb _ _ (l .if1 .left), le-leb _ _ (m .if2 .left), eq-eqb _ _ (c .if3 .taken))
-
-returns-4 : tie.Need-returns-4
-unfolding goesOn
-returns-4 c =
-    let n = c .before in
-    let m = n .before .before in
-    let l = m .before .before .before in
-    rw (le-leb _ _ (l .if1 .left), le-leb _ _ (m .if2 .left), ne-eqb _ _ (n .if3 .left))
+    c .in-part .ensures ∙ rw (le-leb _ _ (l .if1 .left), le-leb _ _ (m .if2 .left))
 
 pub goes-on-spec : {M : Type 1} → statement M
-goes-on-spec = tie.close (tie.spec returns cast-if2 returns-2 returns-3 returns-4)
+goes-on-spec = tie.close (tie.spec returns cast-if2 returns-2 in-part-requires returns-3)
