@@ -3,7 +3,7 @@ use Prim.Native.Nat.{ℕ, _+_, _-_}
 use mathlib.Core.Bool.{Bool, cond}
 use mathlib.Core.List.{List, [], _∷_}
 use lib.Dec.{leb, ltb, eqb}
-use lib.ListN.{take}
+use lib.ListN.{length}
 use Rattle.common.specs.Keys.{arm, byKeys}
 use Rattle.common.specs.Text.{codes}
 use Rattle.target.specs.Limits.{maxElements}
@@ -24,15 +24,14 @@ unfoldable pub depthFrom : ℕ → List Element → ℕ
 depthFrom d [] = d
 depthFrom d (e ∷ es) = depthFrom (depthAfter d (e .letter) (e .value)) es
 
--- the depth after the first count elements: "The stack begins with one value .., so depth starts at 1"; 0 where there
--- are over 16
-unfoldable pub depthOf : List Element → ℕ → ℕ
-depthOf es count = cond (leb count maxElements) (depthFrom 1 (take count es)) 0
+-- the depth of a condition: "The stack begins with one value .., so depth starts at 1"; 0 where it has over 64 elements
+unfoldable pub depthOf : List Element → ℕ
+depthOf es = cond (leb (length es) maxElements) (depthFrom 1 es) 0
 
 -- a condition that elements may still join
-unfoldable pub wellBegun : List Element → ℕ → Bool
-wellBegun es count = ltb 0 (depthOf es count)
+unfoldable pub wellBegun : List Element → Bool
+wellBegun es = ltb 0 (depthOf es)
 
 -- a condition that b may set
-unfoldable pub wellFormed : List Element → ℕ → Bool
-wellFormed es count = eqb (depthOf es count) 1
+unfoldable pub wellFormed : List Element → Bool
+wellFormed es = eqb (depthOf es) 1

@@ -5,7 +5,7 @@ use mathlib.Core.List.{List, [], _∷_}
 use Prim.Native.Char.{code}
 use lib.Bits.{bitAnd}
 use lib.Dec.{leb, eqb}
-use lib.ListN.{length, take}
+use lib.ListN.{length}
 use Rattle.memory.specs.Head.{Head}
 use Rattle.memory.specs.Overlay.{plainAt}
 use Rattle.target.specs.declared.Element.{Element}
@@ -71,8 +71,8 @@ evalFrom read pid (e ∷ es) st =
     cond (escapes read (e .letter) st) true (evalFrom read pid es (stackAfter read pid (e .letter) (e .value) st))
 
 -- "The stack begins with one value, the truth of the final b"
-unfoldable pub evaluateOf : (ℕ → Fetched) → ℕ → List Element → ℕ → Bool
-evaluateOf read pid es count = evalFrom read pid (take count es) (1 ∷ [])
+unfoldable pub evaluateOf : (ℕ → Fetched) → ℕ → List Element → Bool
+evaluateOf read pid es = evalFrom read pid es (1 ∷ [])
 
 -- ---- the reader: "* reads the four plain bytes there, low-order first", which is the house's order, over the window
 -- at base with its traps

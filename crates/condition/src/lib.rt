@@ -1,33 +1,28 @@
-// Conditions in Reverse Polish: their depth, an element more, and their truth over plain memory.
-use target::Draft;
+// Conditions in Reverse Polish: their depth, whether an element may join, and their truth over plain memory. A condition
+// is `count` elements of the pool from the place `from` on.
 use target::Element;
 use target::Entry;
 use target::Table;
 ghost use mathlib.Core.Path.{_≡_};
 ghost use mathlib.Core.List.{List};
 ghost use Prim.Native.Nat.{ℕ, _+_, _<_, _≤_};
-ghost use lib.ListN.{length, drop};
+ghost use lib.ListN.{length, take, drop};
 ghost use Rattle.condition.specs.Depth.{depthAfter, depthOf};
-ghost use Rattle.condition.specs.Add.{addOf};
+ghost use Rattle.condition.specs.Add.{roomBy};
 ghost use Rattle.condition.specs.Evaluate.{flag as flagOf, top, rest, joinOf, evaluateOf, fetchOf};
 ghost use Rattle.condition.specs.Stack.{valueOf, leftBy};
 ghost use Rattle.memory.specs.Head.{house};
-ghost use Rattle.target.specs.Limits.{maxElements};
+ghost use Rattle.target.specs.Limits.{maxElements, maxPlaces};
+ghost use Rattle.target.specs.View.{elementsOf};
 
 // The values that the stack can hold: the one that it begins with, and one for each element.
-const VALUES: usize = 17;
+const VALUES: usize = 65;
 
 // Whether a condition takes one element more.
 pub enum Room {
     Fits,
     Full,
     Short,
-}
-
-// The answer, and the condition in hand afterwards.
-pub struct Added {
-    pub room: Room,
-    pub draft: Draft,
 }
 
 // What `*` finds at an address.
@@ -37,67 +32,51 @@ pub enum Fetched {
 }
 
 // The depth after an element; 0 where values are lacking or it is no element.
-fn depth_after(d: u32, letter: u8, value: u32) -> u32
-    requires { ⌜ d ≤ maxElements ⌝ }
+fn depth_after(d: u32, letter: u32, value: u32) -> u32
+    requires { ⌜ d ≤ maxElements + 1 ⌝ }
     ensures { λ r. ⌜ (r ≡ depthAfter d letter value) × (r ≤ d + 1) ⌝ }
 {
     if d == 0 {
         return 0;
     }
     match letter {
-        b'k' | b'p' => d + 1,
-        b'*' => { if value == 0 { d } else { 0 } }
-        b'&' | b'=' | b'!' | b'a' | b'o' => { if value == 0 { d - 1 } else { 0 } }
+        0x6b | 0x70 => d + 1,
+        0x2a => { if value == 0 { d } else { 0 } }
+        0x26 | 0x3d | 0x21 | 0x61 | 0x6f => { if value == 0 { d - 1 } else { 0 } }
         _ => 0,
     }
 }
 
-// The depth after the first `count` elements; 0 where they are no beginning of a condition.
-pub fn depth_of(elements: [Element; Entry::ELEMENTS], count: u32) -> u32
-    ensures { λ r. ⌜ (r ≡ depthOf elements count) × (r ≤ 17) ⌝ }
+// The depth after a condition; 0 where it is no beginning of one.
+pub fn depth_of(places: &[u32; Table::WORDS], from: usize, count: usize) -> u32
+    requires { ⌜ (from + count ≤ maxPlaces) × (count ≤ maxElements) ⌝ }
+    ensures { λ r. ⌜ (r ≡ depthOf (take count (drop from (elementsOf (now (places .entry)))))) × (r ≤ 65) ⌝ }
 {
-    let n = count as usize;
-    if Entry::ELEMENTS < n {
-        return 0;
-    }
     let mut d: u32 = 1;
     let mut i: usize = 0;
-    while i < n {
-        let e = elements[i];
+    while i < count {
+        let e = pool::element_at(places, from + i);
         d = depth_after(d, e.letter, e.value);
         i += 1;
     }
     d
 }
 
-// Joins an element to the condition in hand, where there is room and the values suffice.
-pub fn add(d: Draft, e: Element) -> Added
-    ensures { λ r. ⌜ r ≡ addOf d e ⌝ }
+// Whether an element may join a condition of a depth and a count, where so many places are held.
+pub fn room_for(depth: u32, count: usize, held: usize, letter: u32, value: u32) -> Room
+    requires { ⌜ depth ≤ maxElements + 1 ⌝ }
+    ensures { λ r. ⌜ r ≡ roomBy depth count held letter value ⌝ }
 {
-    let count = d.count;
-    let i = count as usize;
-    if Entry::ELEMENTS <= i {
-        return Added {
-            room: Room::Full,
-            draft: d,
-        };
+    if Entry::ELEMENTS <= count {
+        return Room::Full;
     }
-    let elements = d.elements;
-    let depth = depth_of(elements, count);
-    let after = depth_after(depth, e.letter, e.value);
-    if after == 0 {
-        return Added {
-            room: Room::Short,
-            draft: d,
-        };
+    if Table::PLACES <= held {
+        return Room::Full;
     }
-    let mut more = d;
-    more.elements[i] = e;
-    more.count = count + 1;
-    Added {
-        room: Room::Fits,
-        draft: more,
+    if depth_after(depth, letter, value) == 0 {
+        return Room::Short;
     }
+    Room::Fits
 }
 
 fn flag(b: bool) -> u32
@@ -107,14 +86,14 @@ fn flag(b: bool) -> u32
 }
 
 // One value of two.
-fn join(letter: u8, x: u32, y: u32) -> u32
+fn join(letter: u32, x: u32, y: u32) -> u32
     ensures { λ r. ⌜ r ≡ joinOf letter x y ⌝ }
 {
     match letter {
-        b'&' => x & y,
-        b'=' => flag(x == y),
-        b'!' => flag(x != y),
-        b'a' => flag(x != 0 && y != 0),
+        0x26 => x & y,
+        0x3d => flag(x == y),
+        0x21 => flag(x != y),
+        0x61 => flag(x != 0 && y != 0),
         _ => flag(x != 0 || y != 0),
     }
 }
@@ -157,9 +136,9 @@ fn value_of(
 {
     let letter = e.letter;
     match letter {
-        b'k' => Fetched::Word(flag(pid == e.value)),
-        b'p' => Fetched::Word(e.value),
-        b'*' => fetch(mem, base, sites, plain, y),
+        0x6b => Fetched::Word(flag(pid == e.value)),
+        0x70 => Fetched::Word(e.value),
+        0x2a => fetch(mem, base, sites, plain, y),
         _ => Fetched::Word(join(letter, x, y)),
     }
 }
@@ -174,49 +153,49 @@ fn top_at(cells: &[u32; VALUES], at: usize) -> u32
 
 // Where the stack begins without its top.
 fn below(at: usize) -> usize
-    requires { ⌜ at ≤ 17 ⌝ }
-    ensures { λ r. ⌜ (at ≤ r) × (1 ≤ r) × (r ≤ 17)
-        × ((cells : List ℕ) → length cells ≡ 17 → drop r cells ≡ rest (drop at cells)) ⌝ }
+    requires { ⌜ at ≤ 65 ⌝ }
+    ensures { λ r. ⌜ (at ≤ r) × (1 ≤ r) × (r ≤ 65)
+        × ((cells : List ℕ) → length cells ≡ 65 → drop r cells ≡ rest (drop at cells)) ⌝ }
 {
     if at < VALUES { at + 1 } else { at }
 }
 
 // Where it begins without the values that an element takes.
-fn stack_without(letter: u8, at: usize) -> usize
-    requires { ⌜ (1 ≤ at) × (at ≤ 17) ⌝ }
-    ensures { λ r. ⌜ (at ≤ r) × (r ≤ 17)
-        × ((cells : List ℕ) → length cells ≡ 17 → drop r cells ≡ leftBy letter (drop at cells)) ⌝ }
+fn stack_without(letter: u32, at: usize) -> usize
+    requires { ⌜ (1 ≤ at) × (at ≤ 65) ⌝ }
+    ensures { λ r. ⌜ (at ≤ r) × (r ≤ 65)
+        × ((cells : List ℕ) → length cells ≡ 65 → drop r cells ≡ leftBy letter (drop at cells)) ⌝ }
 {
     match letter {
-        b'k' => at,
-        b'p' => at,
-        b'*' => below(at),
+        0x6b => at,
+        0x70 => at,
+        0x2a => below(at),
         _ => below(below(at)),
     }
 }
 
-// The truth of the first `count` elements over plain memory, for the trapping process. The stack begins with one value,
-// the truth of the final `b`.
+// The truth of a condition over plain memory, for the trapping process. The stack begins with one value, the truth of the
+// final `b`.
 pub fn evaluate(
     mem: &[u8],
     base: u32,
     sites: &[u32; Table::ENTRIES],
     plain: &[u8; Table::PLAIN],
     pid: u32,
-    elements: [Element; Entry::ELEMENTS],
-    count: u32,
+    places: &[u32; Table::WORDS],
+    from: usize,
+    count: usize,
 ) -> bool
-    requires { ⌜ count ≤ maxElements ⌝ }
+    requires { ⌜ (from + count ≤ maxPlaces) × (count ≤ maxElements) ⌝ }
     ensures { λ r. ⌜ r
         ≡ evaluateOf (fetchOf house (now (sites .entry)) (now (plain .entry)) (now (mem .entry)) base) pid
-        elements count ⌝ }
+        (take count (drop from (elementsOf (now (places .entry))))) ⌝ }
 {
-    let n = count as usize;
     let mut cells: [u32; VALUES] = [1; VALUES];
     let mut at: usize = Entry::ELEMENTS;
     let mut i: usize = 0;
-    while i < n {
-        let e = elements[i];
+    while i < count {
+        let e = pool::element_at(places, from + i);
         let y = top_at(&cells, at);
         let x = top_at(&cells, below(at));
         let found = value_of(mem, base, sites, plain, pid, e, x, y);

@@ -11,14 +11,12 @@ use denote.Shadow.{shadow}
 use denote.Array.{each}
 use denote.Laws.{Is}
 use denote.Struct.Field.{Field}
-use Rattle.target.specs.declared.Element.{Element}
 use Rattle.target.specs.declared.Entry.{Entry}
 use Rattle.target.specs.declared.Draft.{Draft}
 use Rattle.target.specs.declared.Table.{Table}
 use Rattle.target.specs.declared.Process.{Process}
 use Rattle.target.specs.declared.Target.{Target}
-use Rattle.target.specs.Fresh.{noEntry}
-use Rattle.target.proofs.Element as element
+use Rattle.target.specs.Fresh.{pastEntries}
 use Rattle.target.proofs.Entry as entry
 use Rattle.target.proofs.Draft as draft
 use Rattle.target.proofs.Table as table
@@ -47,19 +45,17 @@ field-at F xs us i z p h =
 pub record EntryShape (e : Entry) : Type 0 where
   pub used : e .used < 2 ^ 8
   pub id : e .id < 2 ^ 8
-  pub plain : length (e .plain) ≡ 2
+  pub count : e .count < 2 ^ 8
+  pub plain : length (e .plain) ≡ 4
   pub site : e .site < 2 ^ 32
-  pub count : e .count < 2 ^ 32
-  pub elements : length (e .elements) ≡ 16
 
 pub entry-shape : (e : Entry) (vs : List Val) → Is entry.the-row e vs → EntryShape e
 entry-shape e vs h = record {
   used = h .1 .1 .0 .1;
   id = h .1 .1 .1 .0 .1;
-  plain = sym (length-map (e .plain) (λ (x : ℕ). x)) ∙ (h .1 .1 .1 .1 .0 .1 .0 .1);
-  site = h .1 .1 .1 .1 .1 .0 .1;
-  count = h .1 .1 .1 .1 .1 .1 .0 .1;
-  elements = sym (length-map (e .elements) (element.the-field .into)) ∙ (h .1 .1 .1 .1 .1 .1 .1 .0 .1 .0 .1);
+  count = h .1 .1 .1 .1 .0 .1;
+  plain = sym (length-map (e .plain) (λ (x : ℕ). x)) ∙ (h .1 .1 .1 .1 .1 .0 .1 .0 .1);
+  site = h .1 .1 .1 .1 .1 .1 .0 .1;
 }
 
 -- ---- tables
@@ -68,9 +64,9 @@ pub table-entries : (t : Table) (vs : List Val) → Is table.the-row t vs → le
 table-entries t vs h = sym (length-map (t .entries) (entry.the-field .into)) ∙ (h .1 .1 .0 .1 .0 .1)
 
 pub table-entry : (t : Table) (vs : List Val) (i : ℕ) → Is table.the-row t vs → i < 8
-    → (u : Val) × Is entry.the-row (getD (t .entries) i noEntry) (u ∷ [])
+    → (u : Val) × Is entry.the-row (getD (t .entries) i pastEntries) (u ∷ [])
 table-entry t vs i h p =
-    field-at entry.the-field (t .entries) (h .1 .1 .0 .0) i noEntry (h .1 .1 .0 .1 .1)
+    field-at entry.the-field (t .entries) (h .1 .1 .0 .0) i pastEntries (h .1 .1 .0 .1 .1)
     (subst (λ (n : ℕ). i < n) (sym (table-entries t vs h)) p)
 
 pub table-draft : (t : Table) (vs : List Val) → Is table.the-row t vs → (us : List Val) × Is draft.the-row (t .draft) us
@@ -81,15 +77,13 @@ table-draft t vs h = (_, h .1 .1 .1 .0)
 pub record DraftShape (d : Draft) : Type 0 where
   pub active : d .active < 2 ^ 8
   pub id : d .id < 2 ^ 8
-  pub count : d .count < 2 ^ 32
-  pub elements : length (d .elements) ≡ 16
+  pub count : d .count < 2 ^ 8
 
 pub draft-shape : (d : Draft) (vs : List Val) → Is draft.the-row d vs → DraftShape d
 draft-shape d vs h = record {
   active = h .1 .1 .0 .1;
   id = h .1 .1 .1 .0 .1;
   count = h .1 .1 .1 .1 .0 .1;
-  elements = sym (length-map (d .elements) (element.the-field .into)) ∙ (h .1 .1 .1 .1 .1 .0 .1 .0 .1);
 }
 
 -- ---- targets

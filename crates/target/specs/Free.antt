@@ -4,7 +4,7 @@ use mathlib.Core.Bool.{Bool}
 use mathlib.Core.List.{List}
 use lib.Dec.{eqb}
 use Rattle.common.specs.First.{firstOf}
-use Rattle.target.specs.declared.Entry.{Entry}
+use Rattle.target.specs.View.{Entry}
 
 unfoldable pub isFree : Entry → Bool
 isFree e = eqb (e .used) 0

@@ -13,9 +13,13 @@ maxPlain = 2 * maxEntries
 abbrev pub maxId : ℕ
 maxId = 255
 
--- "0 to 16 condition elements"
+-- 02, Seven: "it would be the 65th of its condition"
 abbrev pub maxElements : ℕ
-maxElements = 16
+maxElements = 64
+
+-- 02, Seven: "one pool of 128 places"
+abbrev pub maxPlaces : ℕ
+maxPlaces = 128
 
 -- "Processes: 1 to 4"
 abbrev pub maxProcesses : ℕ

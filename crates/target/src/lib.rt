@@ -1,39 +1,41 @@
 // The record of the stub: the window, the processes, the breakpoints and the condition in hand.
 //
 // Every field is an unsigned integer, or an array or struct of them, so that any bytes of the record's size are a
-// record.
-// A flag is a byte that a fit record has at 0 or 1. What a free entry holds, and the room past a count, is of no
-// account.
+// record. A flag is a byte that a fit record has at 0 or 1. What a free entry holds is of no account.
+//
+// The elements of all conditions stand in a pool of words that is lent beside the record and never copied: in the order
+// of the entries, then those of the condition in hand (specs/View).
 ghost use mathlib.Core.Path.{_≡_};
-ghost use Rattle.target.specs.Fresh.{freshEntry, closedDraft, freshTable, emptyTarget};
+ghost use mathlib.Core.List.{List};
+ghost use Rattle.target.specs.declared.Element.{Element};
+ghost use Rattle.target.specs.View.{viewEntries};
+ghost use Rattle.target.specs.Fresh.{freeEntry, noDraft, newTable, emptyRecord};
 ghost use Rattle.target.specs.Free.{firstFree};
 
 // One element of a condition: a letter, and the value of `k` and `p`.
 #[repr(C)]
 pub struct Element {
-    pub letter: u8,
+    pub letter: u32,
     pub value: u32,
 }
 
-// A breakpoint: its id, its site (an address), the two plain bytes of the site, and its condition's first `count`
-// elements.
+// A breakpoint: its id, how many elements its condition has, room for the plain bytes of its site (the first two are
+// they), and the site (an address). The elements stand in the pool.
 #[repr(C)]
 pub struct Entry {
     pub used: u8,
     pub id: u8,
-    pub plain: [u8; 2],
+    pub count: u8,
+    pub plain: [u8; 4],
     pub site: u32,
-    pub count: u32,
-    pub elements: [Element; Entry::ELEMENTS],
 }
 
-// The condition in hand, which a Tcondbreak `n` opens: the id that it is for, and its first `count` elements.
+// The condition in hand, which a Tcondbreak `n` opens: the id that it is for, and how many elements it has.
 #[repr(C)]
 pub struct Draft {
     pub active: u8,
     pub id: u8,
-    pub count: u32,
-    pub elements: [Element; Entry::ELEMENTS],
+    pub count: u8,
 }
 
 #[repr(C)]
@@ -74,41 +76,32 @@ impl Process {
 }
 
 impl Entry {
-    pub const ELEMENTS: usize = 16;
+    // The most elements of a condition.
+    pub const ELEMENTS: usize = 64;
 
     pub const LAST_ID: u32 = 255;
 
     pub fn free() -> Entry
-        ensures { λ r. ⌜ r ≡ freshEntry ⌝ }
+        ensures { λ r. ⌜ r ≡ freeEntry ⌝ }
     {
-        let none = Element {
-            letter: 0,
-            value: 0,
-        };
         Entry {
             used: 0,
             id: 0,
-            plain: [0; 2],
-            site: 0,
             count: 0,
-            elements: [none; Entry::ELEMENTS],
+            plain: [0; 4],
+            site: 0,
         }
     }
 }
 
 impl Draft {
     pub fn closed() -> Draft
-        ensures { λ r. ⌜ r ≡ closedDraft ⌝ }
+        ensures { λ r. ⌜ r ≡ noDraft ⌝ }
     {
-        let none = Element {
-            letter: 0,
-            value: 0,
-        };
         Draft {
             active: 0,
             id: 0,
             count: 0,
-            elements: [none; Entry::ELEMENTS],
         }
     }
 }
@@ -117,10 +110,14 @@ impl Table {
     pub const ENTRIES: usize = 8;
     // The plain bytes of all entries, two for each.
     pub const PLAIN: usize = 16;
+    // The places of the pool, and its words: place i is words 2i (the letter) and 2i + 1 (the value).
+    pub const PLACES: usize = 128;
+
+    pub const WORDS: usize = 256;
 
     // Eight free entries and no condition in hand.
     pub fn new() -> Table
-        ensures { λ r. ⌜ r ≡ freshTable ⌝ }
+        ensures { λ r. ⌜ r ≡ newTable ⌝ }
     {
         let entry = Entry::free();
         let draft = Draft::closed();
@@ -132,7 +129,7 @@ impl Table {
 
     // The lowest index of a free entry, or 8 where none is free.
     pub fn first_free(self) -> usize
-        ensures { λ r. ⌜ r ≡ firstFree (self .entries) ⌝ }
+        ensures { λ r. ⌜ ((pool : List Element) → r ≡ firstFree (viewEntries (self .entries) pool)) ⌝ }
     {
         let mut k: usize = 0;
         let index = loop {
@@ -154,7 +151,7 @@ impl Target {
 
     // What a refused setup leaves: no process, B and M 0, the table fresh, none current.
     pub fn empty() -> Target
-        ensures { λ r. ⌜ r ≡ emptyTarget ⌝ }
+        ensures { λ r. ⌜ r ≡ emptyRecord ⌝ }
     {
         let none = Process {
             pid: 0,

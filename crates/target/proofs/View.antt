@@ -1,0 +1,40 @@
+-- Laws of the view of a record: an entry by its index, and what does not depend on the pool. Assumes nothing.
+use mathlib.Core.Path.{_≡_, refl, ap, _∙_}
+use mathlib.Core.Bool.{Bool, cond}
+use mathlib.Core.List.{List, [], _∷_, map}
+use Prim.Native.Nat.{ℕ, zero, suc, _+_, _<_}
+use native.Mathlib.Nat.{not-suc-le-zero, le-of-suc-le-suc}
+use lib.Dec.{eqb}
+use lib.ListN.{length, getD, take, drop}
+use lib.Seq.{drop-drop}
+use Rattle.common.specs.First.{firstOf}
+use Rattle.pool_rows.specs.Rows.{total, startOf}
+use Rattle.target.specs.declared.Element.{Element}
+use Rattle.target.specs.declared.Entry.{Entry as StoredEntry}
+use Rattle.target.specs.View.{Entry, viewEntry, viewEntries, sizeOf, sizesOf, startAt}
+use Rattle.target.specs.Free.{isFree, firstFree}
+use Rattle.target.specs.Fresh.{noEntry, pastEntries}
+
+pub length-view : (es : List StoredEntry) (pool : List Element) → length (viewEntries es pool) ≡ length es
+unfolding viewEntries
+length-view [] pool = refl
+length-view (e ∷ es) pool = ap suc (length-view es (drop (sizeOf e) pool))
+
+-- entry k has its elements from its start on
+pub view-at : (es : List StoredEntry) (pool : List Element) (k : ℕ) → k < length es
+    → getD (viewEntries es pool) k noEntry
+    ≡ viewEntry (getD es k pastEntries) (take (sizeOf (getD es k pastEntries)) (drop (startAt es k) pool))
+unfolding viewEntries startAt startOf sizesOf total
+view-at [] pool k h = absurd (not-suc-le-zero h)
+view-at (e ∷ es) pool zero h = refl
+view-at (e ∷ es) pool (suc k) h =
+    view-at es (drop (sizeOf e) pool) k (le-of-suc-le-suc h)
+    ∙ ap (λ (l : List Element). viewEntry (getD es k pastEntries) (take (sizeOf (getD es k pastEntries)) l))
+    (drop-drop (startAt es k) (sizeOf e) pool)
+
+-- the first free entry does not depend on the pool
+pub first-view : (es : List StoredEntry) (pool : List Element)
+    → firstFree (viewEntries es pool) ≡ firstOf (λ (e : StoredEntry). eqb (e .used) 0) es
+unfolding firstFree viewEntries firstOf isFree
+first-view [] pool = refl
+first-view (e ∷ es) pool = ap (λ (n : ℕ). cond (eqb (e .used) 0) 0 (suc n)) (first-view es (drop (sizeOf e) pool))
