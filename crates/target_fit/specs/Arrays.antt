@@ -3,7 +3,7 @@ use Prim.Native.Nat.{ℕ, _-_}
 use mathlib.Core.Bool.{cond}
 use mathlib.Core.List.{List, [], _∷_, _++_, map}
 use Rattle.memory.specs.Overlay.{freeSite}
-use Rattle.target.specs.declared.Entry.{Entry}
+use Rattle.target.specs.View.{Entry}
 use Rattle.target.specs.Free.{isFree}
 
 -- the id of a free slot: over 255, so no breakpoint's

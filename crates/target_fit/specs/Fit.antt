@@ -1,21 +1,20 @@
 -- 01, "The target record and what is lent": when a record is fit, in the paper's order. Memory is M bytes by number 2.
 use Prim.Native.Nat.{ℕ, _+_, _-_, _*_, _%_}
 use mathlib.Core.Bool.{Bool, true, false, cond, not, _&&_, _||_}
-use mathlib.Core.List.{List}
+use mathlib.Core.List.{List, map}
 use lib.Dec.{leb, ltb, eqb}
 use lib.ListN.{length, getD, take, replicate}
 use Rattle.common.specs.Every.{every}
 use Rattle.common.specs.First.{firstOf}
-use Rattle.condition.specs.Depth.{wellBegun, wellFormed}
+use Rattle.condition.specs.Depth.{depthOf, wellBegun, wellFormed}
 use Rattle.memory.specs.Head.{Head}
 use Rattle.memory.specs.Overlay.{freeSite}
 use Rattle.memory.specs.Place.{isSite}
 pub use Rattle.target.specs.Limits.{stopped}
-use Rattle.target.specs.Limits.{maxEntries, maxPlain, maxProcesses}
-use Rattle.target.specs.declared.Entry.{Entry}
-use Rattle.target.specs.declared.Draft.{Draft}
+use Rattle.pool_rows.specs.Rows.{total}
+use Rattle.target.specs.Limits.{maxEntries, maxPlain, maxPlaces, maxProcesses}
 use Rattle.target.specs.declared.Process.{Process}
-use Rattle.target.specs.declared.Target.{Target}
+use Rattle.target.specs.View.{Entry, Draft, Table, Target}
 use Rattle.target.specs.Fresh.{noEntry, noProcess}
 use Rattle.target.specs.Free.{isFree, firstFree}
 use Rattle.target_fit.specs.Arrays.{freeId, idOf, idsOf, sitesOf, plainsOf}
@@ -56,10 +55,12 @@ unfoldable pub siteFit : Head → ℕ → List ℕ → ℕ → Bool
 siteFit h base mem s =
     isSite base (length mem) s && eqb (getD mem (s - base) 0) (h .first) && eqb (getD mem (s - base + 1) 0) (h .second)
 
--- "each condition is well formed"
+-- "each condition is well formed"; 02, Seven: "the places held are those of its elements"
 unfoldable pub entryFit : Head → ℕ → List ℕ → Entry → Bool
-entryFit h base mem e = isFree e || (eqb (e .used) 1 && siteFit h base mem (e .site)
-    && wellFormed (e .elements) (e .count))
+entryFit h base mem e =
+    isFree e
+    || (eqb (e .used) 1 && siteFit h base mem (e .site) && eqb (length (e .elements)) (e .count)
+    && wellFormed (e .elements))
 
 -- the entry at index i is fit, and apart from every one before it
 unfoldable pub slotFit : Head → ℕ → List ℕ → List Entry → ℕ → Bool
@@ -83,10 +84,10 @@ unfoldable pub processOf : List Process → ℕ → ℕ → ℕ
 processOf ps n pid = firstOf (λ p. eqb (p .pid) pid) (take n ps)
 
 -- the process with this pid, where it is listed
-unfoldable pub findOf : Target → ℕ → Lookup
-findOf t pid =
-    let i = processOf (t .processes) (t .count) pid in
-    cond (ltb i (t .count)) (At i (processAt (t .processes) i)) Unlisted
+unfoldable pub findOf : List Process → ℕ → ℕ → Lookup
+findOf ps n pid =
+    let i = processOf ps n pid in
+    cond (ltb i n) (At i (processAt ps i)) Unlisted
 
 unfoldable pub currentFit : ℕ → ℕ → List Process → ℕ → Bool
 currentFit selected current ps n = eqb selected 0 || (eqb selected 1 && ltb (processOf ps n current) n)
@@ -101,11 +102,28 @@ entryOf es id = firstOf (eqb id) (idsOf es)
 unfoldable pub draftTest : Draft → List ℕ → ℕ → Bool
 draftTest d ids free =
     eqb (d .active) 0
-    || (eqb (d .active) 1 && wellBegun (d .elements) (d .count) && eqb (firstOf (eqb (d .id)) ids) maxEntries
-    && ltb free maxEntries)
+    || (eqb (d .active) 1 && eqb (length (d .elements)) (d .count) && wellBegun (d .elements)
+    && eqb (firstOf (eqb (d .id)) ids) maxEntries && ltb free maxEntries)
 
 unfoldable pub draftFit : Draft → List Entry → Bool
 draftFit d es = draftTest d (idsOf es) (firstFree es)
+
+-- ---- 02, Seven: "one pool of 128 places"
+
+-- how many places an entry holds: a free one none
+unfoldable pub placesOf : Entry → ℕ
+placesOf e = cond (isFree e) 0 (e .count)
+
+unfoldable pub entriesHeld : List Entry → ℕ
+entriesHeld es = total (map placesOf es)
+
+-- and the condition in hand: none where nothing is in hand
+unfoldable pub draftHeld : Draft → ℕ
+draftHeld d = cond (eqb (d .active) 0) 0 (d .count)
+
+-- all places held
+unfoldable pub heldOf : Table → ℕ
+heldOf u = entriesHeld (u .entries) + draftHeld (u .draft)
 
 -- ---- the whole record
 
@@ -117,18 +135,28 @@ fitOf h t mem =
     && marksFit (t .processes) (t .count)
     && currentFit (t .selected) (t .current) (t .processes) (t .count)
     && draftFit (t .table .draft) (t .table .entries)
+    && leb (heldOf (t .table)) maxPlaces
 
--- ---- what a scan of the table gives: whether the test holds, and the table as arrays; of an unfit one, arrays of free
--- entries
+-- ---- what a scan of the table gives: whether the test holds, how many places are held, the depth of the condition in
+-- hand, and the table as arrays; of an unfit one, arrays of free entries
 
 abbrev pub unfitScan : Scan
 unfitScan = record {
   fit = false;
+  held = 0;
+  depth = 0;
   ids = replicate maxEntries freeId;
   sites = replicate maxEntries freeSite;
   plain = replicate maxPlain 0;
 }
 
-unfoldable pub scanOf : Bool → ℕ → List Entry → Scan
-scanOf true base es = record { fit = true; ids = idsOf es; sites = sitesOf base es; plain = plainsOf es }
-scanOf false base es = unfitScan
+unfoldable pub scanOf : Bool → ℕ → Table → Scan
+scanOf true base u = record {
+  fit = true;
+  held = heldOf u;
+  depth = depthOf (u .draft .elements);
+  ids = idsOf (u .entries);
+  sites = sitesOf base (u .entries);
+  plain = plainsOf (u .entries);
+}
+scanOf false base u = unfitScan

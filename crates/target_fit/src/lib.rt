@@ -13,10 +13,12 @@ ghost use Rattle.common.specs.Every.{every};
 ghost use Rattle.target_fit.specs.Fit.{windowFit, processesFit, markFit, marksFit, processOf, findOf, currentFit};
 ghost use Rattle.target.specs.Limits.{maxProcesses, blockSize};
 
-// Whether the test holds and, where it does, the ids, the sites as offsets into the window, and the plain bytes of the
-// entries.
+// Whether the test holds and, where it does, how many places are held, the depth of the condition in hand, and of the
+// entries the ids, the sites as offsets into the window, and the plain bytes.
 pub struct Scan {
     pub fit: bool,
+    pub held: usize,
+    pub depth: u32,
     pub ids: [u32; Table::ENTRIES],
     pub sites: [u32; Table::ENTRIES],
     pub plain: [u8; Table::PLAIN],
@@ -123,7 +125,7 @@ fn process_of(ps: [Process; Target::PROCESSES], count: u32, pid: u32) -> usize
 // The process with a pid.
 pub fn find(t: Target, pid: u32) -> Lookup
     requires { ⌜ t .count ≤ maxProcesses ⌝ }
-    ensures { λ r. ⌜ r ≡ findOf t pid ⌝ }
+    ensures { λ r. ⌜ r ≡ findOf (t .processes) (t .count) pid ⌝ }
 {
     let ps = t.processes;
     let i = process_of(ps, t.count, pid);

@@ -3,19 +3,23 @@
 // One function walks the table: it tests the entries and fills the arrays in the same pass. The steps work on the
 // arrays.
 use target::Draft;
+use target::Entry;
 use target::Table;
 use target::Target;
 use target_fit::Scan;
 ghost use mathlib.Core.Path.{_≡_};
 ghost use mathlib.Core.Bool.{not, _&&_};
-ghost use Prim.Native.Nat.{_%_, _≤_};
-ghost use lib.Dec.{eqb};
-ghost use lib.ListN.{getD};
+ghost use Prim.Native.Nat.{_+_, _%_, _≤_};
+ghost use lib.Dec.{eqb, leb, ltb};
+ghost use lib.ListN.{getD, take, drop};
 ghost use Rattle.common.specs.Every.{every};
 ghost use Rattle.common.specs.First.{firstOf};
-ghost use Rattle.target_fit.specs.Fit.{siteFit, entriesFit, draftTest, fitOf, unfitScan, scanOf};
+ghost use Rattle.condition.specs.Depth.{wellFormed};
+ghost use Rattle.target_fit.specs.Fit.{siteFit, fitOf, unfitScan, scanOf};
+ghost use Rattle.target_scan.specs.Parts.{scanEntries, scanDraft};
 ghost use Rattle.memory.specs.Head.{house};
-ghost use Rattle.target.specs.Limits.{maxEntries};
+ghost use Rattle.target.specs.Limits.{maxEntries, maxPlaces};
+ghost use Rattle.target.specs.View.{elementsOf, viewTable, viewOf};
 
 // A site is even, in the window, and holds the trap.
 fn site_fit(mem: &[u8], base: u32, site: u32) -> bool
@@ -56,17 +60,27 @@ fn clear_of(
     true
 }
 
-// What is left to test of an entry that is not free.
-fn used_fit(mem: &[u8], base: u32, used: u8, site: u32, depth: u32) -> bool
-    ensures { λ r. ⌜ r ≡ (eqb used 1 && siteFit house base (now (mem .entry)) site && eqb depth 1) ⌝ }
+// What is left to test of an entry that is not free, whose elements start at a place.
+fn used_fit(mem: &[u8], base: u32, places: &[u32; Table::WORDS], e: Entry, from: usize) -> bool
+    requires { ⌜ from ≤ maxPlaces ⌝ }
+    ensures { λ r. ⌜ r ≡ (eqb (e .used) 1 && siteFit house base (now (mem .entry)) (e .site)
+        && leb (from + e .count) maxPlaces
+        && wellFormed (take (e .count) (drop from (elementsOf (now (places .entry)))))) ⌝ }
 {
-    if used != 1 {
+    if e.used != 1 {
         return false;
     }
-    if !site_fit(mem, base, site) {
+    if !site_fit(mem, base, e.site) {
         return false;
     }
-    depth == 1
+    let count = e.count as usize;
+    if Entry::ELEMENTS < count {
+        return false;
+    }
+    if Table::PLACES < from + count {
+        return false;
+    }
+    condition::depth_of(places, from, count) == 1
 }
 
 fn unfit() -> Scan
@@ -74,31 +88,31 @@ fn unfit() -> Scan
 {
     Scan {
         fit: false,
+        held: 0,
+        depth: 0,
         ids: [Scan::FREE_ID; Table::ENTRIES],
         sites: [Scan::FREE_SITE; Table::ENTRIES],
         plain: [0; Table::PLAIN],
     }
 }
 
-// Tests the entries, and gives the table as arrays. The window begins even, so no used entry has a free one's offset.
-// An entry is looked at twice: only a used one is copied whole.
-fn scan_table(mem: &[u8], base: u32, t: Table) -> Scan
+// Tests the entries, and gives the table as arrays, without the condition in hand. The window begins even, so no used
+// entry has a free one's offset.
+fn scan_table(mem: &[u8], base: u32, t: Table, places: &[u32; Table::WORDS]) -> Scan
     requires { ⌜ base % 2 ≡ 0 ⌝ }
-    ensures { λ r. ⌜ r ≡ scanOf (entriesFit house base (now (mem .entry)) (t .entries)) base (t .entries) ⌝ }
+    ensures { λ r. ⌜ r ≡ scanEntries base (now (mem .entry)) (t .entries) (elementsOf (now (places .entry))) ⌝ }
 {
     let mut ids: [u32; Table::ENTRIES] = [Scan::FREE_ID; Table::ENTRIES];
     let mut sites: [u32; Table::ENTRIES] = [Scan::FREE_SITE; Table::ENTRIES];
     let mut plain: [u8; Table::PLAIN] = [0; Table::PLAIN];
+    let mut held: usize = 0;
     let mut i: usize = 0;
     while i < Table::ENTRIES {
-        let f = t.entries[i];
-        plain[2 * i] = f.plain[0];
-        plain[2 * i + 1] = f.plain[1];
-        if t.entries[i].used != 0 {
-            let e = t.entries[i];
-            let elements = e.elements;
-            let depth = condition::depth_of(elements, e.count);
-            if !used_fit(mem, base, e.used, e.site, depth) {
+        let e = t.entries[i];
+        plain[2 * i] = e.plain[0];
+        plain[2 * i + 1] = e.plain[1];
+        if e.used != 0 {
+            if !used_fit(mem, base, places, e, held) {
                 return unfit();
             }
             let id = e.id as u32;
@@ -108,11 +122,14 @@ fn scan_table(mem: &[u8], base: u32, t: Table) -> Scan
             }
             ids[i] = id;
             sites[i] = at;
+            held += e.count as usize;
         }
         i += 1;
     }
     Scan {
         fit: true,
+        held,
+        depth: 0,
         ids: ids,
         sites: sites,
         plain: plain,
@@ -137,18 +154,12 @@ pub fn entry_of(ids: &[u32; Table::ENTRIES], id: u32) -> usize
     index
 }
 
-// A condition in hand has a well-formed beginning, an unused id and a free entry waiting.
+// A condition in hand has an unused id and a free entry waiting. Its elements are tested by `check`.
 fn draft_fit(d: Draft, ids: &[u32; Table::ENTRIES], free: usize) -> bool
-    ensures { λ r. ⌜ r ≡ draftTest d (now (ids .entry)) free ⌝ }
+    ensures { λ r. ⌜ r ≡ (eqb (d .active) 1 && eqb (firstOf (eqb (d .id)) (now (ids .entry))) maxEntries
+        && ltb free maxEntries) ⌝ }
 {
-    if d.active == 0 {
-        return true;
-    }
     if d.active != 1 {
-        return false;
-    }
-    let elements = d.elements;
-    if condition::depth_of(elements, d.count) == 0 {
         return false;
     }
     if entry_of(ids, d.id as u32) != Table::ENTRIES {
@@ -157,9 +168,53 @@ fn draft_fit(d: Draft, ids: &[u32; Table::ENTRIES], free: usize) -> bool
     free < Table::ENTRIES
 }
 
-// Whether a record is fit over a memory, and its table as arrays; of an unfit one, arrays of free entries.
-pub fn check(t: Target, mem: &[u8]) -> Scan
-    ensures { λ r. ⌜ r ≡ scanOf (fitOf house t (now (mem .entry))) (t .base) (t .table .entries) ⌝ }
+// The scan of a fit table with what the condition in hand, which starts where the table's places end, adds to it.
+fn scan_draft(found: Scan, d: Draft, places: &[u32; Table::WORDS]) -> Scan
+    requires { ⌜ found .held ≤ maxPlaces ⌝ }
+    ensures { λ r. ⌜ r ≡ scanDraft found d (elementsOf (now (places .entry))) ⌝ }
+{
+    let ids = found.ids;
+    let sites = found.sites;
+    let plain = found.plain;
+    if d.active == 0 {
+        return Scan {
+            fit: true,
+            held: found.held,
+            depth: 1,
+            ids: ids,
+            sites: sites,
+            plain: plain,
+        };
+    }
+    if !draft_fit(d, &ids, entry_of(&ids, Scan::FREE_ID)) {
+        return unfit();
+    }
+    let count = d.count as usize;
+    if Entry::ELEMENTS < count {
+        return unfit();
+    }
+    let held = found.held + count;
+    if Table::PLACES < held {
+        return unfit();
+    }
+    let depth = condition::depth_of(places, found.held, count);
+    if depth == 0 {
+        return unfit();
+    }
+    Scan {
+        fit: true,
+        held,
+        depth,
+        ids: ids,
+        sites: sites,
+        plain: plain,
+    }
+}
+
+// Whether a record with its pool is fit over a memory, and its table as arrays; of an unfit one, arrays of free entries.
+pub fn check(t: Target, places: &[u32; Table::WORDS], mem: &[u8]) -> Scan
+    ensures { λ r. ⌜ r ≡ scanOf (fitOf house (viewOf t (now (places .entry))) (now (mem .entry))) (t .base)
+        (viewTable (t .table) (elementsOf (now (places .entry)))) ⌝ }
 {
     let ps = t.processes;
     let count = t.count;
@@ -176,14 +231,10 @@ pub fn check(t: Target, mem: &[u8]) -> Scan
         return unfit();
     }
     let table = t.table;
-    let found = scan_table(mem, t.base, table);
+    let found = scan_table(mem, t.base, table, places);
     if !found.fit {
         return unfit();
     }
-    let ids = found.ids;
     let draft = table.draft;
-    if !draft_fit(draft, &ids, entry_of(&ids, Scan::FREE_ID)) {
-        return unfit();
-    }
-    found
+    scan_draft(found, draft, places)
 }
