@@ -13,7 +13,7 @@ use Rattle.memory.specs.Place.{placeOf}
 use Rattle.memory.specs.declared.Place.the-variants.{Window}
 use Rattle.common.proofs.Cases.{on-test}
 use Rattle.request_parse.specs.declared.Parsed.{Parsed}
-use Rattle.target.specs.declared.Target.{Target}
+use Rattle.target.specs.View.{Target, Draft}
 use Rattle.wire.specs.Message.{bytes4, bytesOf, typeOf}
 use Rattle.wire.specs.declared.Data4.{Data4}
 use Rattle.wire.specs.declared.Message.{Message}
@@ -41,7 +41,6 @@ use lib.Seq.{take-suc-set}
 use Rattle.condition.specs.Add.{roomFor, withElement}
 use Rattle.condition.specs.declared.Room.the-variants.{Fits}
 use Rattle.target.specs.Fresh.{closedDraft}
-use Rattle.target.specs.declared.Draft.{Draft}
 use Rattle.target.specs.declared.Element.{Element}
 use Rattle.rules.specs.Condition.{dropped, inHand, begun}
 use Rattle.rules.proofs.KeptDraft.{room-fits}

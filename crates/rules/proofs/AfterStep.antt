@@ -6,7 +6,7 @@ use Prim.Native.Nat.{ℕ, _<_}
 use lib.Dec.{eqb}
 use Rattle.target_fit.specs.Fit.{stopped}
 use Rattle.memory.specs.Head.{Head}
-use Rattle.target.specs.declared.Target.{Target}
+use Rattle.target.specs.View.{Target}
 use Rattle.rules.specs.Outcome.{World, world, answered, refused, repliedWith}
 use Rattle.rules.specs.Record.{indexOf, stopWith}
 use Rattle.rules.specs.Event.{restart}

@@ -12,10 +12,8 @@ use Rattle.common.specs.Keys.{among}
 use Rattle.target_fit.specs.Fit.{processAt, entryAt}
 use Rattle.memory.specs.Head.{Head}
 use Rattle.memory.specs.Overlay.{plainOf}
-use Rattle.target.specs.declared.Draft.{Draft}
-use Rattle.target.specs.declared.Entry.{Entry}
+use Rattle.target.specs.View.{Draft, Entry, Target}
 use Rattle.target.specs.declared.Process.{Process}
-use Rattle.target.specs.declared.Target.{Target}
 use Rattle.rules.specs.Record.{isStopped}
 use Rattle.rules.specs.Breakpoint.{sites, plains}
 use Rattle.rules.specs.Book.{Breakpoint, Pending, Book}

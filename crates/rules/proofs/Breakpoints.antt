@@ -15,7 +15,7 @@ use Rattle.common.proofs.Cases.{on-test}
 use Rattle.common.proofs.Lists.{at-set}
 use Rattle.target.specs.Free.{isFree}
 use Rattle.target.specs.Fresh.{noEntry, freshEntry}
-use Rattle.target.specs.declared.Entry.{Entry}
+use Rattle.target.specs.View.{Entry}
 use Rattle.rules.specs.Request.{withPlains}
 use Rattle.rules.specs.Book.{Breakpoint, removing}
 use Rattle.rules.proofs.Facts.{UsedIn}

@@ -8,8 +8,7 @@ use Rattle.condition.specs.Depth.{wellFormed}
 use Rattle.target_fit.specs.Fit.{fitOf, processAt, entryAt, markFit, currentFit, draftFit}
 use Rattle.memory.specs.Head.{Head}
 use Rattle.target.specs.Free.{isFree}
-use Rattle.target.specs.declared.Entry.{Entry}
-use Rattle.target.specs.declared.Target.{Target}
+use Rattle.target.specs.View.{Entry, Target}
 
 -- ---- the shape: lengths of arrays, and ids below 256, which the types of the code give
 

@@ -24,9 +24,8 @@ use Rattle.memory.proofs.Site.{site-place, no-site-free}
 use Rattle.memory.proofs.Slots.{slot-below, slot-site}
 use Rattle.memory_laws.proofs.Planted.{Planted, planted-by}
 use Rattle.target.specs.Free.{isFree}
-use Rattle.target.specs.declared.Entry.{Entry}
+use Rattle.target.specs.View.{Entry, Target}
 use Rattle.target.specs.declared.Process.{Process}
-use Rattle.target.specs.declared.Target.{Target}
 use Rattle.rules.specs.Breakpoint.{sites, plains}
 use Rattle.rules.proofs.Facts.{Shaped, Differ, Used, UsedFacts, Facts, Good}
 use Rattle.rules.proofs.Slots as slots

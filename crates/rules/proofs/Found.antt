@@ -15,7 +15,7 @@ use Rattle.target_fit.specs.Arrays.{idOf, idsOf}
 use Rattle.target_fit.specs.Fit.{entryAt, entryOf}
 use Rattle.target.specs.Free.{isFree, firstFree}
 use Rattle.target.specs.Fresh.{noEntry}
-use Rattle.target.specs.declared.Entry.{Entry}
+use Rattle.target.specs.View.{Entry}
 use Rattle.rules.specs.Breakpoint.{isAt, breakpointAt}
 use Rattle.rules.proofs.Facts.{UsedIn}
 use Rattle.rules.proofs.Slots.{length-ids, id-at, id-used, id-free}

@@ -19,7 +19,7 @@ use Rattle.common.proofs.Lists.{at-set}
 use Rattle.memory.specs.Head.{Head}
 use Rattle.target.specs.Fresh.{noProcess}
 use Rattle.target.specs.declared.Process.{Process}
-use Rattle.target.specs.declared.Target.{Target}
+use Rattle.target.specs.View.{Target}
 use Rattle.rules.specs.Record.{indexOf, withState, isStopped}
 use Rattle.rules.specs.Event.{restarted}
 use Rattle.rules.specs.Step.{beginning}

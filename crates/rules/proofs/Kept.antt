@@ -12,7 +12,7 @@ use Rattle.memory.specs.Overlay.{covered}
 use Rattle.memory.proofs.Bytes.{length-plain}
 use Rattle.memory_laws.proofs.Laws.{planted-set}
 use Rattle.request_parse.specs.declared.Parsed.{Parsed}
-use Rattle.target.specs.declared.Target.{Target}
+use Rattle.target.specs.View.{Target}
 use Rattle.wire.specs.declared.Message.{Message}
 use Rattle.rules.specs.declared.Answer.{Answer}
 use Rattle.rules.specs.Outcome.{World, world, Outcome, refused, answered, repliedWith, error}

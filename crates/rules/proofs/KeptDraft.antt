@@ -20,9 +20,8 @@ use Rattle.common.proofs.Cases.{on-test}
 use Rattle.common.proofs.Same.{parts}
 use Rattle.target.specs.Free.{isFree, firstFree}
 use Rattle.target.specs.Fresh.{noEntry, freshEntry, closedDraft}
-use Rattle.target.specs.declared.Draft.{Draft}
+use Rattle.target.specs.View.{Draft, Entry}
 use Rattle.target.specs.declared.Element.{Element}
-use Rattle.target.specs.declared.Entry.{Entry}
 use Rattle.rules.specs.Condition.{begun}
 use Rattle.rules.specs.Request.{withPlains}
 use Rattle.rules.proofs.Slots.{length-ids, ids-set, ids-with, first-with}

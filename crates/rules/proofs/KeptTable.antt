@@ -19,9 +19,7 @@ use Rattle.memory_laws.proofs.Laws.{planted-written, no-traps-planted}
 use Rattle.memory_laws.proofs.Planting.{planted-more, removed-planted}
 use Rattle.target.specs.Free.{isFree}
 use Rattle.target.specs.Fresh.{noEntry, freshEntry, freshTable, closedDraft}
-use Rattle.target.specs.declared.Draft.{Draft}
-use Rattle.target.specs.declared.Entry.{Entry}
-use Rattle.target.specs.declared.Target.{Target}
+use Rattle.target.specs.View.{Draft, Entry, Target}
 use Rattle.rules.specs.Breakpoint.{sites, plains}
 use Rattle.rules.proofs.Facts.{ShapedEntry, Used, Good}
 use Rattle.rules.specs.Record.{withTable, withDraft, withEntries}

@@ -27,8 +27,7 @@ use Rattle.memory_laws.proofs.Laws.{laid-plain, laid-same, plain-written}
 use Rattle.memory_laws.proofs.Planting.{planted-plain, removed-plain}
 use Rattle.target.specs.Free.{isFree}
 use Rattle.target.specs.Fresh.{noEntry, freshEntry}
-use Rattle.target.specs.declared.Entry.{Entry}
-use Rattle.target.specs.declared.Target.{Target}
+use Rattle.target.specs.View.{Entry, Target}
 use Rattle.rules.specs.Breakpoint.{sites, plains}
 use Rattle.rules.specs.Request.{withPlains}
 use Rattle.rules.specs.Book.{Breakpoint, Book, intoWindow, inWindow, sitesBy, realBy}

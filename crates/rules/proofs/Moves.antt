@@ -13,15 +13,13 @@ use Rattle.target_fit.specs.Fit.{processAt, entryAt}
 use Rattle.memory.specs.Head.{Head}
 use Rattle.memory.specs.Overlay.{covered, plainOf}
 use Rattle.target_fit.specs.Arrays.{sitesOf, plainsOf}
-use Rattle.target.specs.declared.Table.{Table}
+use Rattle.target.specs.View.{Table, Draft, Target}
 use borrow.Author.Tests.{eq-eqb, eqb-true}
 use Rattle.memory.specs.Write.{overwritten}
 use Rattle.memory_laws.proofs.Laws.{plain-set}
 use Rattle.target.specs.Free.{isFree, firstFree}
 use Rattle.target.specs.Fresh.{closedDraft}
-use Rattle.target.specs.declared.Draft.{Draft}
 use Rattle.target.specs.declared.Process.{Process}
-use Rattle.target.specs.declared.Target.{Target}
 use Rattle.rules.specs.Outcome.{world, repliedWith}
 use Rattle.rules.specs.Record.{withTable, withEntries, withProcesses, withCurrent, indexOf, setState, isStopped}
 use Rattle.rules.specs.Record.{withDraft}

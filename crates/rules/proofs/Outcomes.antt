@@ -31,9 +31,8 @@ use Rattle.request_parse.specs.declared.Parsed.the-variants.{Request, Refused, 
 use Rattle.target.specs.Free.{firstFree}
 use Rattle.target.specs.Fresh.{emptyTarget}
 use Rattle.target.specs.declared.Element.{Element}
-use Rattle.target.specs.declared.Entry.{Entry}
+use Rattle.target.specs.View.{Entry, Target}
 use Rattle.target.specs.declared.Process.{Process}
-use Rattle.target.specs.declared.Target.{Target}
 use Rattle.wire_text.specs.declared.Reason.{Reason}
 use Rattle.wire_text.specs.declared.Reason.the-variants.{Count, Inval, Pid, Notstop}
 use Rattle.wire.specs.Message.{isMessage, typeOf, fieldsOf, bytesOf, bytes4}

@@ -12,11 +12,8 @@ use Rattle.memory.specs.Head.{Head, trapBytes}
 use Rattle.memory.specs.Overlay.{siteOver}
 use Rattle.memory.proofs.Slots.{covered-by}
 use Rattle.memory_laws.proofs.Planted.{Planted, planted-at}
-use Rattle.target.specs.declared.Draft.{Draft}
-use Rattle.target.specs.declared.Entry.{Entry}
+use Rattle.target.specs.View.{Draft, Entry, Table, Target}
 use Rattle.target.specs.declared.Process.{Process}
-use Rattle.target.specs.declared.Table.{Table}
-use Rattle.target.specs.declared.Target.{Target}
 use Rattle.rules.specs.Breakpoint.{sites}
 use Rattle.rules.proofs.Facts.{ShapedEntry, Used, UsedFacts, Good}
 use Rattle.rules.specs.Record.{withTable, withProcesses, withCurrent}

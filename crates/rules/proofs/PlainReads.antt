@@ -30,8 +30,7 @@ use Rattle.memory.proofs.Slots.{covered-by, slot-only as slot-of}
 use Rattle.request_parse.specs.Request.{parseOf}
 use Rattle.request_parse.specs.declared.Parsed.{Parsed}
 use Rattle.request_parse.specs.declared.Parsed.the-variants.{Request, Refused, NotTen}
-use Rattle.target.specs.declared.Entry.{Entry}
-use Rattle.target.specs.declared.Target.{Target}
+use Rattle.target.specs.View.{Entry, Target}
 use Rattle.wire.specs.Message.{bytesOf, typeOf}
 use Rattle.wire.specs.declared.Message.{Message}
 use Rattle.wire.specs.declared.Message.the-variants.{Tmget, Tmput, Tproc, Tstatus, Trnote, Tstop, Tstart, Tcondbreak}

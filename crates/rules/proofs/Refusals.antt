@@ -8,8 +8,7 @@ use lib.Dec.{eqb}
 use Rattle.common.proofs.Same.{true-or-false}
 use Rattle.memory.specs.Head.{Head}
 use Rattle.target.specs.Fresh.{closedDraft}
-use Rattle.target.specs.declared.Draft.{Draft}
-use Rattle.target.specs.declared.Target.{Target}
+use Rattle.target.specs.View.{Draft, Target}
 use Rattle.wire.specs.Message.{bytesOf}
 use Rattle.rules.specs.Outcome.{World, world, Outcome, refused, answered, repliedWith, error}
 use Rattle.rules.specs.Record.{withTable, withDraft}

@@ -12,7 +12,7 @@ use Rattle.common.proofs.Cases.{on-test}
 use Rattle.common.proofs.Same.{and-left, and-right}
 use Rattle.target_fit.specs.Fit.{fitOf}
 use Rattle.memory.specs.Head.{Head}
-use Rattle.target.specs.declared.Target.{Target}
+use Rattle.target.specs.View.{Target}
 use Rattle.wire.specs.Message.{isMessage, typeOf}
 use Rattle.wire.specs.declared.Message.{Message}
 use Rattle.wire.specs.declared.Message.the-variants.{Rerr}

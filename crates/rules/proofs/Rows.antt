@@ -12,7 +12,7 @@ use Rattle.target_fit.specs.Fit.{entryAt}
 use Rattle.common.proofs.Lists.{at-set}
 use Rattle.target.specs.Free.{isFree}
 use Rattle.target.specs.Fresh.{noEntry, freshEntry}
-use Rattle.target.specs.declared.Entry.{Entry}
+use Rattle.target.specs.View.{Entry}
 use Rattle.rules.specs.Request.{withPlains}
 use Rattle.rules.proofs.Facts.{UsedIn, Differ}
 use Rattle.rules.proofs.Slots.{withPlain, with-at}

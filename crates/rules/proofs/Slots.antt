@@ -16,7 +16,7 @@ use Rattle.target_fit.specs.Arrays.{freeId, idOf, siteOf, idsOf, sitesOf, plain
 use Rattle.target_fit.specs.Fit.{entryAt}
 use Rattle.target.specs.Free.{isFree, firstFree}
 use Rattle.target.specs.Fresh.{noEntry}
-use Rattle.target.specs.declared.Entry.{Entry}
+use Rattle.target.specs.View.{Entry}
 use Rattle.rules.specs.Request.{withPlains}
 
 -- ---- one slot

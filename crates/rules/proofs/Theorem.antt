@@ -12,7 +12,7 @@ use Rattle.memory.specs.Head.{Head}
 use Rattle.memory.specs.Overlay.{covered}
 use Rattle.request_parse.specs.Request.{parseOf}
 use Rattle.request_parse.specs.declared.Parsed.the-variants.{Request}
-use Rattle.target.specs.declared.Target.{Target}
+use Rattle.target.specs.View.{Target}
 use Rattle.wire.specs.declared.Message.the-variants.{Tmget, Tstart}
 use Rattle.rules.specs.Outcome.{Outcome, answered}
 use Rattle.rules.specs.Breakpoint.{sites}

@@ -16,7 +16,7 @@ use Rattle.common.proofs.Cases.{on-test, either, same-test}
 use Rattle.common.proofs.Same.{true-or-false}
 use Rattle.target_fit.specs.Fit.{processAt, entryAt}
 use Rattle.memory.specs.Head.{Head}
-use Rattle.target.specs.declared.Target.{Target}
+use Rattle.target.specs.View.{Target}
 use Rattle.rules.specs.Outcome.{world, Outcome, answered, refused}
 use Rattle.rules.specs.Record.{indexOf, blockAt, pcOf, isStopped}
 use Rattle.rules.specs.Breakpoint.{breakpointAt}

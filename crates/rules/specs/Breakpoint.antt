@@ -11,9 +11,7 @@ use Rattle.target_fit.specs.Arrays.{sitesOf, plainsOf}
 use Rattle.target_fit.specs.Fit.{entryAt}
 use Rattle.target.specs.Free.{isFree, firstFree}
 use Rattle.target.specs.Fresh.{freshEntry, closedDraft}
-use Rattle.target.specs.declared.Draft.{Draft}
-use Rattle.target.specs.declared.Entry.{Entry}
-use Rattle.target.specs.declared.Target.{Target}
+use Rattle.target.specs.View.{Draft, Entry, Target}
 use Rattle.rules.specs.declared.Answer.{Answer}
 use Rattle.rules.specs.declared.Answer.the-variants.{Nothing, Pass}
 use Rattle.rules.specs.Outcome.{World, world}
@@ -57,7 +55,7 @@ passAt es address =
 
 -- ---- making one
 
--- "An entry holds an id, a site, the two plain bytes of the site, and 0 to 16 condition elements"
+-- "An entry holds an id, a site, the two plain bytes of the site", and its condition's elements
 abbrev pub entryWith : Draft → ℕ → List ℕ → Entry
 entryWith d site plain =
     record { used = 1; id = d .id; plain = plain; site = site; count = d .count; elements = d .elements }

@@ -13,7 +13,7 @@ use Rattle.common.specs.Numbers.{accepted, notFit}
 use Rattle.memory.specs.Head.{Head}
 use Rattle.request_parse.specs.Request.{parseOf}
 use Rattle.request_parse.specs.declared.Parsed.the-variants.{Request}
-use Rattle.target.specs.declared.Target.{Target}
+use Rattle.target.specs.View.{Target}
 use Rattle.wire.specs.declared.Message.the-variants.{Tmget, Tstart}
 use Rattle.rules.specs.declared.Answer.{Answer}
 use Rattle.rules.specs.Outcome.{Outcome}

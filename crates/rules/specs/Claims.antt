@@ -10,7 +10,7 @@ use Rattle.common.specs.Numbers.{accepted, wrongSize, notFit}
 use Rattle.memory.specs.Head.{Head, house}
 use Rattle.request_parse.specs.Exact.{Exact}
 use Rattle.target.specs.Fresh.{emptyTarget}
-use Rattle.target.specs.declared.Target.{Target}
+use Rattle.target.specs.View.{Target}
 use Rattle.target_fit.specs.Fit.{fitOf}
 use Rattle.wire.specs.Message.{isMessage, bytesOf}
 use Rattle.wire.specs.declared.Message.{Message}

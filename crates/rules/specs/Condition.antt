@@ -2,20 +2,20 @@
 use Prim.Native.Nat.{ℕ}
 use Prim.Native.Char.{code}
 use mathlib.Core.Bool.{Bool, cond, not, _&&_, _||_}
+use mathlib.Core.List.{[]}
 use lib.Dec.{leb, ltb, eqb}
-use lib.ListN.{length, replicate}
+use lib.ListN.{length}
 use Rattle.condition.specs.Depth.{wellFormed}
-use Rattle.condition.specs.Add.{addOf}
+use Rattle.condition.specs.Add.{roomFor, withElement}
 use Rattle.condition.specs.declared.Room.{Room}
 use Rattle.condition.specs.declared.Room.the-variants.{Fits, Full, Short}
-use Rattle.condition.specs.declared.Added.{Added}
-use Rattle.target_fit.specs.Fit.{entryOf}
+use Rattle.target_fit.specs.Fit.{entryOf, heldOf}
 use Rattle.memory.specs.Head.{Head}
 use Rattle.memory.specs.Place.{isSite}
-use Rattle.target.specs.Limits.{maxElements, maxId}
+use Rattle.target.specs.Limits.{maxId}
 use Rattle.target.specs.Free.{firstFree}
-use Rattle.target.specs.Fresh.{closedDraft, noElement}
-use Rattle.target.specs.declared.Draft.{Draft}
+use Rattle.target.specs.Fresh.{closedDraft}
+use Rattle.target.specs.View.{Draft}
 use Rattle.target.specs.declared.Element.{Element}
 use Rattle.wire.specs.declared.Message.the-variants.{Rcondbreak}
 use Rattle.wire_text.specs.declared.Reason.{Reason}
@@ -38,7 +38,7 @@ inHand w = not (eqb (w .target .table .draft .active) 0)
 
 -- a condition with an id and no element
 unfoldable pub begun : ℕ → Draft
-begun id = record { active = 1; id = id; count = 0; elements = replicate maxElements noElement }
+begun id = record { active = 1; id = id; count = 0; elements = [] }
 
 -- "n val: begins a condition, replacing one in hand. Id over 255 or in use: inval; then, table full: count"
 unfoldable pub beginCondition : World → ℕ → Outcome
@@ -48,16 +48,18 @@ beginCondition w val =
     (cond (leb (length es) (firstFree es)) (failed Count w)
     (replied Rcondbreak (world (withDraft (w .target) (begun val)) (w .mem) (w .regs))))
 
-unfoldable pub joined : World → Added → Room → Outcome
-joined w a Fits = replied Rcondbreak (world (withDraft (w .target) (a .draft)) (w .mem) (w .regs))
-joined w a Full = failed Count w
-joined w a Short = failed Inval w
+unfoldable pub joined : World → Element → Room → Outcome
+joined w e Fits =
+    replied Rcondbreak (world (withDraft (w .target) (withElement (w .target .table .draft) e)) (w .mem) (w .regs))
+joined w e Full = failed Count w
+joined w e Short = failed Inval w
 
--- an element: "In order: nothing in hand, inval; a 17th element, count; too few values, inval"
+-- an element: "In order: nothing in hand, inval"; 02, Seven: count "exactly when it would be the 65th of its condition,
+-- or all 128 places are held"; "too few values, inval"
 unfoldable pub addElement : World → Element → Outcome
 addElement w e =
-    let a = addOf (w .target .table .draft) e in
-    cond (inHand w) (joined w a (a .room)) (failed Inval w)
+    let u = w .target .table in
+    cond (inHand w) (joined w e (roomFor (u .draft .elements) (heldOf u) e)) (failed Inval w)
 
 -- an even address with both bytes in the window, where no breakpoint is
 unfoldable pub siteFree : World → ℕ → Bool
@@ -70,7 +72,7 @@ siteFree w val =
 unfoldable pub setBreakpoint : Head → World → ℕ → Outcome
 setBreakpoint h w val =
     let d = w .target .table .draft in
-    let fits = inHand w && siteFree w val && wellFormed (d .elements) (d .count) in
+    let fits = inHand w && siteFree w val && wellFormed (d .elements) in
     cond fits (replied Rcondbreak (planted h w val)) (failed Inval w)
 
 -- "d val: the breakpoint is removed .. Unknown id: inval. The condition in hand stays in either case"

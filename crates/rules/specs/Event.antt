@@ -9,9 +9,8 @@ use Rattle.condition.specs.Evaluate.{evaluateOf, fetchOf}
 use Rattle.target_fit.specs.Fit.{stopped, processAt, entryAt}
 use Rattle.memory.specs.Head.{Head}
 use Rattle.target.specs.Fresh.{freshTable}
-use Rattle.target.specs.declared.Entry.{Entry}
+use Rattle.target.specs.View.{Entry, Target}
 use Rattle.target.specs.declared.Process.{Process}
-use Rattle.target.specs.declared.Target.{Target}
 use Rattle.wire.specs.declared.Message.the-variants.{Rerr}
 use Rattle.wire_text.specs.declared.Reason.the-variants.{Reset}
 use Rattle.rules.specs.declared.Answer.the-variants.{Nothing, Stop, Yes, No}
@@ -32,7 +31,7 @@ onListed w pid serve =
 unfoldable pub holds : Head → World → ℕ → Entry → Bool
 holds h w pid e =
     let t = w .target in
-    evaluateOf (fetchOf h (sites t) (plains t) (w .mem) (t .base)) pid (e .elements) (e .count)
+    evaluateOf (fetchOf h (sites t) (plains t) (w .mem) (t .base)) pid (e .elements)
 
 -- "True: the block is saved, the process is Stopped, its mark cleared, answer Stop with the id. False: nothing
 -- changes, answer Pass"

@@ -9,11 +9,8 @@ use Rattle.memory.specs.Write.{overwritten}
 use Rattle.target_fit.specs.Fit.{stopped, processAt, processOf}
 pub use Rattle.target.specs.Limits.{ready}
 use Rattle.target.specs.Limits.{blockSize, pcOffset}
-use Rattle.target.specs.declared.Draft.{Draft}
-use Rattle.target.specs.declared.Entry.{Entry}
-use Rattle.target.specs.declared.Table.{Table}
+use Rattle.target.specs.View.{Draft, Entry, Table, Target}
 use Rattle.target.specs.declared.Process.{Process}
-use Rattle.target.specs.declared.Target.{Target}
 use Rattle.rules.specs.Outcome.{World, world}
 
 -- ---- the record

@@ -16,9 +16,8 @@ use Rattle.target_fit.specs.Fit.{processAt}
 use Rattle.request_parse.specs.declared.Parsed.{Parsed}
 use Rattle.request_parse.specs.declared.Parsed.the-variants.{Request, Refused, NotTen}
 use Rattle.target.specs.Limits.{blockSize}
-use Rattle.target.specs.declared.Entry.{Entry}
+use Rattle.target.specs.View.{Entry, Target}
 use Rattle.target.specs.declared.Process.{Process}
-use Rattle.target.specs.declared.Target.{Target}
 use Rattle.wire.specs.Message.{bytes4}
 use Rattle.wire.specs.declared.Data4.{Data4}
 use Rattle.wire.specs.declared.Data9.{Data9}

@@ -14,7 +14,7 @@ use Rattle.request_parse.specs.Request.{parseOf}
 use Rattle.target.specs.Limits.{blockSize, maxProcesses}
 use Rattle.target.specs.Fresh.{noProcess, freshTable, emptyTarget}
 use Rattle.target.specs.declared.Process.{Process}
-use Rattle.target.specs.declared.Target.{Target}
+use Rattle.target.specs.View.{Target}
 use Rattle.rules.specs.declared.Answer.the-variants.{Nothing}
 use Rattle.rules.specs.Outcome.{World, world, Outcome, outcome, answered, refused}
 use Rattle.rules.specs.Record.{ready}

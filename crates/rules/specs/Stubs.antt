@@ -15,7 +15,7 @@ use Rattle.memory.specs.Head.{house, trapBytes}
 use Rattle.memory.specs.Overlay.{laidOver}
 use Rattle.target.specs.Free.{isFree}
 use Rattle.target.specs.Limits.{blockSize, maxPlain, pcOffset}
-use Rattle.target.specs.declared.Target.{Target}
+use Rattle.target.specs.View.{Target}
 use Rattle.wire_text.specs.declared.Reason.{Reason}
 use Rattle.rules.specs.declared.Answer.the-variants.{Nothing, Pass, Yes, No}
 use Rattle.rules.specs.Outcome.{World, world, Outcome, outcome, answered, error}

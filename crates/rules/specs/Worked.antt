@@ -6,7 +6,7 @@ use lib.ListN.{take, drop, replicate}
 use Rattle.common.specs.Bytes.{highFirst}
 use Rattle.common.specs.Tab.{tab}
 use Rattle.target.specs.Limits.{blockSize, pcOffset}
-use Rattle.target.specs.declared.Target.{Target}
+use Rattle.target.specs.View.{Target}
 use Rattle.rules.specs.Outcome.{World, Outcome, shown}
 use Rattle.rules.specs.Step.{Setup, setupBy, Step, request, trapEvent, stateEvent, restartStep}
 
