@@ -36,24 +36,18 @@ use Rattle.rules.proofs.Moves.{move-current, move-named, move-kept, mov
 use Rattle.rules.proofs.Moves.{move-written, drafted-none}
 use Rattle.rules.proofs.Moves.{move-draft, move-planted}
 use mathlib.Core.Option.{Option, none, some}
-use native.Mathlib.Numerals.{add-one}
-use lib.Seq.{take-suc-set}
-use Rattle.condition.specs.Add.{roomFor, withElement}
-use Rattle.condition.specs.declared.Room.the-variants.{Fits}
+use Rattle.condition.specs.Add.{withElement}
 use Rattle.target.specs.Fresh.{closedDraft}
 use Rattle.target.specs.declared.Element.{Element}
 use Rattle.rules.specs.Condition.{dropped, inHand, begun}
-use Rattle.rules.proofs.KeptDraft.{room-fits}
 use Rattle.rules.proofs.Outcomes.{RequestCase, RequestOutcome, serving, failing, got, put, aside, current}
 use Rattle.rules.proofs.Outcomes.{told, noted, halted, marked, started}
 use Rattle.rules.proofs.Outcomes.{cleared, begins, plants, removes, adds}
 
 -- an element that fits joins both
-joins-both : (d : Draft) (o : Option Pending) (e : Element) → d .count < length (d .elements) → Drafted d o
-    → Drafted (withElement d e) (joins o e)
+joins-both : (d : Draft) (o : Option Pending) (e : Element) → Drafted d o → Drafted (withElement d e) (joins o e)
 unfolding withElement joins pendingOf
-joins-both d o e room v h =
-    rw (v h, add-one (d .count), take-suc-set (d .elements) (d .count) e room)
+joins-both d o e v h = rw (v h)
 
 module _ {head : Head} (s : Setup) (b : Book) (t : Target) (mem regs : List ℕ) (a : Agree head s b t mem) where
   abbrev w : World
@@ -105,12 +99,10 @@ module _ {head : Head} (s : Setup) (b : Book) (t : Target) (mem regs : List ℕ)
   after-begun val = move-draft s b t mem v (begun val) _ (λ h. refl)
 
   -- an element
-  after-joined : (e : Element) → roomFor (t .table .draft) e ≡ Fits
+  after-joined : (e : Element)
       → Follows s (withPending b (joins (b .draft) e)) (withDraft t (withElement (t .table .draft) e)) mem
-  after-joined e q =
-      let room : t .table .draft .count < length (t .table .draft .elements) =
-      omega (arith, room-fits (t .table .draft) e q .0, a .good .shaped .draftElements) in
-      move-draft s b t mem v _ (joins (b .draft) e) (joins-both (t .table .draft) (b .draft) e room (v .draft))
+  after-joined e =
+      move-draft s b t mem v _ (joins (b .draft) e) (joins-both (t .table .draft) (b .draft) e (v .draft))
 
   -- b
   after-planted : (val : ℕ) → inHand w ≡ true
@@ -148,7 +140,7 @@ module _ {head : Head} (s : Setup) (b : Book) (t : Target) (mem regs : List ℕ)
   after-left (begins n x y z) = rw n (after-begun _)
   after-left (plants n b′ h x y) = rw (n, b′) (after-planted _ h)
   after-left (removes n b′ d x y) = rw (n, b′, d) (after-deleted _ x y)
-  after-left (adds n b′ d h r) = rw (n, b′, d) (after-joined _ r)
+  after-left (adds n b′ d h r) = rw (n, b′, d) (after-joined _)
 
   -- an accepted one feeds the book, and one that is refused does not
   pub after-served : {d : Bool} {p : Parsed} {o : Outcome} → RequestOutcome w d (RequestCase head w p) o

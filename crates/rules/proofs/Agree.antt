@@ -22,9 +22,9 @@ use Rattle.rules.proofs.Facts.{UsedIn, Good}
 
 -- ---- breakpoints
 
--- what the book has of an entry: its id, its site and the elements that are in use
+-- what the book has of an entry: its id, its site and its elements
 unfoldable pub dressed : Entry → Breakpoint
-dressed e = record { id = e .id; site = e .site; elements = take (e .count) (e .elements) }
+dressed e = record { id = e .id; site = e .site; elements = e .elements }
 
 -- some entry is this breakpoint
 pub record Held (es : List Entry) (x : Breakpoint) : Type 0 where
@@ -40,7 +40,7 @@ pub record SameBreakpoints (es : List Entry) (l : List Breakpoint) : Type 0 wher
 -- ---- the condition in hand
 
 unfoldable pub pendingOf : Draft → Pending
-pendingOf d = record { id = d .id; elements = take (d .count) (d .elements) }
+pendingOf d = record { id = d .id; elements = d .elements }
 
 -- one in hand is the book's
 abbrev pub Drafted : Draft → Option Pending → Type 0

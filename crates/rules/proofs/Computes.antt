@@ -16,12 +16,13 @@ use Rattle.request_parse.specs.Request.{counted, unused, lettered, parsedBy, pa
 use Rattle.memory.specs.Overlay.{siteOver, slotOf, covered, plainAt, plainOf, laidAt, laidOver}
 use Rattle.memory.specs.Place.{placeOf, isSite}
 use Rattle.memory.specs.Write.{bytesAt, plainRead, writtenAt, overwritten, memAfter, offsetOf, plainAfter}
-use Rattle.condition.specs.Add.{roomFor, withElement, addedBy, addOf}
+use Rattle.condition.specs.Add.{roomBy, roomFor, withElement}
 use Rattle.condition.specs.Depth.{depthAfter, depthFrom, depthOf, wellBegun, wellFormed}
 use Rattle.condition.specs.Evaluate.{joinOf, isOutside, wordOf, escapes, stackAfter, evalFrom, evaluateOf, fetchOf}
 use Rattle.target_fit.specs.Arrays.{idOf, siteOf, idsOf, sitesOf, plainsOf}
 use Rattle.target_fit.specs.Fit.{windowFit, pidFit, processesFit, apart, siteFit, entryFit, slotFit, entriesFit}
-use Rattle.target_fit.specs.Fit.{markFit, marksFit}
+use Rattle.pool_rows.specs.Rows.{total}
+use Rattle.target_fit.specs.Fit.{markFit, marksFit, placesOf, entriesHeld, draftHeld, heldOf}
 use Rattle.target_fit.specs.Fit.{processOf, currentFit, entryOf, draftTest, draftFit, fitOf}
 use Rattle.target.specs.Free.{isFree, firstFree}
 use Rattle.rules.specs.Outcome.{shown, shownWith, answerBytes, refused, answered, repliedWith, error}
@@ -65,7 +66,7 @@ unfolding shownBy after shown shownWith answerBytes
     fitOf windowFit processesFit pidFit entriesFit slotFit entryFit siteFit apart marksFit markFit currentFit processOf
     draftFit draftTest
     entryOf idOf siteOf idsOf sitesOf plainsOf isFree firstFree
-    roomFor withElement addedBy addOf depthAfter depthFrom depthOf wellBegun wellFormed
+    roomBy roomFor withElement heldOf entriesHeld placesOf draftHeld total depthAfter depthFrom depthOf wellBegun wellFormed
     joinOf isOutside wordOf escapes stackAfter evalFrom evaluateOf fetchOf
     placeOf isSite bytesAt plainRead writtenAt overwritten memAfter offsetOf plainAfter
     siteOver slotOf covered plainAt plainOf laidAt laidOver

@@ -5,7 +5,7 @@ use Prim.Native.Nat.{ℕ, _+_, _-_, _%_, _≤_, _<_}
 use mathlib.Core.List.{List}
 use lib.ListN.{length, getD}
 use Rattle.condition.specs.Depth.{wellFormed}
-use Rattle.target_fit.specs.Fit.{fitOf, processAt, entryAt, markFit, currentFit, draftFit}
+use Rattle.target_fit.specs.Fit.{fitOf, processAt, entryAt, markFit, currentFit, draftFit, heldOf}
 use Rattle.memory.specs.Head.{Head}
 use Rattle.target.specs.Free.{isFree}
 use Rattle.target.specs.View.{Entry, Target}
@@ -14,13 +14,11 @@ use Rattle.target.specs.View.{Entry, Target}
 
 pub record ShapedEntry (e : Entry) : Type 0 where
   pub plain : length (e .plain) ≡ 2
-  pub elements : length (e .elements) ≡ 16
   pub id : e .id < 256
 
 pub record Shaped (t : Target) : Type 0 where
   pub entries : length (t .table .entries) ≡ 8
   pub entry : (k : ℕ) → k < 8 → ShapedEntry (entryAt (t .table .entries) k)
-  pub draftElements : length (t .table .draft .elements) ≡ 16
   pub draftId : t .table .draft .id < 256
   pub processes : length (t .processes) ≡ 4
 
@@ -44,7 +42,8 @@ pub record UsedFacts (h : Head) (t : Target) (mem : List ℕ) (e : Entry) : Type
   pub high : e .site - t .base + 2 ≤ length mem
   pub trap0 : getD mem (e .site - t .base) 0 ≡ h .first
   pub trap1 : getD mem (e .site - t .base + 1) 0 ≡ h .second
-  pub formed : wellFormed (e .elements) (e .count) ≡ true
+  pub whole : length (e .elements) ≡ e .count
+  pub formed : wellFormed (e .elements) ≡ true
 
 -- ---- the record
 
@@ -67,6 +66,7 @@ pub record Facts (h : Head) (t : Target) (mem : List ℕ) : Type 0 where
       → markFit (processAt (t .processes) i .state) (processAt (t .processes) i .wanted) ≡ true
   pub current : currentFit (t .selected) (t .current) (t .processes) (t .count) ≡ true
   pub draft : draftFit (t .table .draft) (t .table .entries) ≡ true
+  pub held : heldOf (t .table) ≤ 128
 
 -- a record that the steps keep: shaped, fit, and with its memory
 pub record Good (h : Head) (t : Target) (mem : List ℕ) : Type 0 where

@@ -4,8 +4,8 @@ use mathlib.Core.Bool.{true, false, not, _&&_}
 use mathlib.Core.List.{List}
 use Prim.Native.Nat.{ℕ, _+_, _-_, _*_, _%_, _<_}
 use native.Mathlib.Omega.{arith}
-use borrow.Author.Tests.{ltb-true, ltb-false, eqb-false, not-true, lt-ltb, le-leb, eq-eqb, ne-eqb}
-use lib.Dec.{ltb, eqb}
+use borrow.Author.Tests.{leb-true, ltb-true, ltb-false, eqb-false, not-true, lt-ltb, le-leb, eq-eqb, ne-eqb}
+use lib.Dec.{leb, ltb, eqb}
 use lib.ListN.{length, getD}
 use Rattle.common.specs.Every.{every}
 use Rattle.common.proofs.Every.{every-at, every-all}
@@ -15,7 +15,7 @@ use Rattle.common.proofs.Tab.{pair-at}
 use Rattle.target_fit.proofs.Slots.{TwoEach, sixteen-plains as plains-sixteen, plain-byte}
 use Rattle.target_fit.specs.Fit.{fitOf, windowFit, processAt, pidFit, processesFit, entryAt, apart, siteFit, entryFit}
 use Rattle.target_fit.specs.Fit.{slotFit, entriesFit}
-use Rattle.target_fit.specs.Fit.{marksFit, currentFit, draftFit}
+use Rattle.target_fit.specs.Fit.{marksFit, currentFit, draftFit, heldOf}
 use Rattle.memory.specs.Head.{Head, trapBytes}
 use Rattle.memory.specs.Place.{isSite}
 use Rattle.memory.specs.Overlay.{freeSite, siteOver, slotOf, covered}
@@ -41,7 +41,7 @@ differ P key apart i j p q e =
     (λ l. absurd (apart i j (ltb-true i j l) p q e))
     (λ l. absurd (apart j i (omega (arith, ltb-false i j l)) q p (sym e))))
 
--- ---- the six tests of a record
+-- ---- the seven tests of a record
 
 pub record Tests (head : Head) (t : Target) (mem : List ℕ) : Type 0 where
   pub window : windowFit (t .base) (t .size) ≡ true
@@ -50,6 +50,7 @@ pub record Tests (head : Head) (t : Target) (mem : List ℕ) : Type 0 where
   pub marks : marksFit (t .processes) (t .count) ≡ true
   pub current : currentFit (t .selected) (t .current) (t .processes) (t .count) ≡ true
   pub draft : draftFit (t .table .draft) (t .table .entries) ≡ true
+  pub held : leb (heldOf (t .table)) 128 ≡ true
 
 module _ {head : Head} (t : Target) (mem : List ℕ) where
   -- a fit record passes each
@@ -62,12 +63,13 @@ module _ {head : Head} (t : Target) (mem : List ℕ) where
     marks = search (and-left, and-right) depth 7;
     current = search (and-left, and-right) depth 7;
     draft = search (and-left, and-right) depth 7;
+    held = search (and-left, and-right) depth 7;
   }
 
   -- one that passes each is fit
   pub fit-by : Tests head t mem → fitOf head t mem ≡ true
   unfolding fitOf
-  fit-by c = rw (c .window, c .processes, c .entries, c .marks, c .current, c .draft)
+  fit-by c = rw (c .window, c .processes, c .entries, c .marks, c .current, c .draft, c .held)
 
 -- ---- processes
 
@@ -134,6 +136,7 @@ module _ (head : Head) (t : Target) (mem : List ℕ) where
         high = search parts depth 9;
         trap0 = search parts depth 9;
         trap1 = search parts depth 9;
+        whole = search parts depth 9;
         formed = search parts depth 9;
       }
 
@@ -152,6 +155,7 @@ module _ (head : Head) (t : Target) (mem : List ℕ) where
         le-leb _ _ (f .high),
         eq-eqb _ _ (f .trap0),
         eq-eqb _ _ (f .trap1),
+        eq-eqb _ _ (f .whole),
         f .formed,
       ))
 
@@ -207,6 +211,7 @@ module _ (head : Head) (t : Target) (mem : List ℕ) where
         marks = λ i h. every-at (t .count) _ (c .marks) i h;
         current = c .current;
         draft = c .draft;
+        held = leb-true _ _ (c .held);
       }
 
   -- used entries that hold what they are to, and differ, are fit
@@ -244,6 +249,7 @@ module _ (head : Head) (t : Target) (mem : List ℕ) where
     marks = every-all (t .count) _ (f .marks);
     current = f .current;
     draft = f .draft;
+    held = le-leb _ _ (f .held);
   }
 
 -- ---- a fit record is one of which the facts hold

@@ -145,5 +145,6 @@ good-change {head} t mem i byte g n =
         rows = u .rows;
         planted = planted-set (trapBytes head) (sites t) mem i byte n (u .planted);
         sized = length-set mem i byte ∙ u .sized;
+        held = u .held;
       };
     })

@@ -3,12 +3,13 @@
 use mathlib.Core.Path.{_≡_, refl, sym, _∙_}
 use mathlib.Core.Bool.{true, false}
 use mathlib.Core.List.{List, [], _∷_}
-use Prim.Native.Nat.{ℕ, _-_, _<_}
+use Prim.Native.Nat.{ℕ, _+_, _-_, _<_, _≤_}
 use native.Mathlib.Omega.{arith}
 use lib.ListN.{length, set, replicate, length-set, length-take, length-drop, getD-replicate}
 use Rattle.common.proofs.Same.{true-or-false}
 use Rattle.target_fit.specs.Arrays.{siteOf, sitesOf}
-use Rattle.target_fit.specs.Fit.{entryAt}
+use Rattle.pool_rows.specs.Rows.{total}
+use Rattle.target_fit.specs.Fit.{entryAt, placesOf, entriesHeld, draftHeld, heldOf}
 use Rattle.memory.specs.Head.{Head, trapBytes}
 use Rattle.memory.specs.Overlay.{freeSite, laidOver}
 use Rattle.memory.specs.Write.{memAfter, plainAfter}
@@ -26,18 +27,19 @@ use Rattle.rules.specs.Record.{withTable, withDraft, withEntries}
 use Rattle.rules.specs.Request.{withPlains}
 use Rattle.rules.proofs.Slots.{site-used, sites-set, length-with, with-at, sites-with}
 use Rattle.rules.proofs.FitFacts.{eight-sites, slot-used, slot-free, slot-only, sixteen-plains}
+use Rattle.rules.proofs.Places.{held-set, held-with, places-used, places-free, closed-held}
 use Rattle.rules.proofs.Rows.{Row, stored-at, rows-set, rows-with, rows-fresh}
 use Rattle.rules.proofs.Parts.{DraftParts, TableParts, parts-of, good-table}
 use Rattle.rules.proofs.KeptDraft.{closed-draft, freed-draft, with-draft}
 
 -- a fresh entry has its shape
 fresh-shaped : ShapedEntry freshEntry
-fresh-shaped = record { plain = refl; elements = refl; id = omega arith }
+fresh-shaped = record { plain = refl; id = omega arith }
 
 -- ---- a fresh table, over any memory
 
 pub fresh-parts : {head : Head} (base n : ℕ) (mem : List ℕ) → length mem ≡ n → TableParts head base n freshTable mem
-unfolding sitesOf siteOf isFree
+unfolding sitesOf siteOf isFree heldOf entriesHeld placesOf draftHeld total
 fresh-parts {head} base n mem size = record {
   eight = refl;
   entry = λ k h. rw (getD-replicate 8 k freshEntry noEntry h) fresh-shaped;
@@ -45,6 +47,7 @@ fresh-parts {head} base n mem size = record {
   rows = rows-fresh base n;
   planted = no-traps-planted (trapBytes head) (replicate 8 freeSite) mem (free-slots 2 (omega arith) 8);
   sized = size;
+  held = omega arith;
 }
 
 module _ {head : Head} (t : Target) (mem : List ℕ) (g : Good head t mem) where
@@ -57,15 +60,17 @@ module _ {head : Head} (t : Target) (mem : List ℕ) (g : Good head t mem) where
 
   -- ---- the condition in hand
 
-  pub good-draft : (d : Draft) → DraftParts d (t .table .entries) → Good head (withDraft t d) mem
-  unfolding withDraft
-  good-draft d p = good-table t mem g _ mem (record {
+  pub good-draft : (d : Draft) → DraftParts d (t .table .entries) → entriesHeld (t .table .entries) + draftHeld d ≤ 128
+      → Good head (withDraft t d) mem
+  unfolding withDraft heldOf
+  good-draft d p few = good-table t mem g _ mem (record {
     eight = old .eight;
     entry = old .entry;
     draft = p;
     rows = old .rows;
     planted = old .planted;
     sized = old .sized;
+    held = few;
   })
 
   -- ---- an entry stored
@@ -77,12 +82,14 @@ module _ {head : Head} (t : Target) (mem : List ℕ) (g : Good head t mem) where
   -- a breakpoint is made in a free entry, and nothing is in hand
   pub good-made : (k : ℕ) (e : Entry) → k < 8 → isFree (entryAt (t .table .entries) k) ≡ true → ShapedEntry e
       → isFree e ≡ false
+      → e .count ≡ draftHeld (t .table .draft)
       → Row (t .base) (t .size) e
       → ((j : ℕ) → Used t j → entryAt (t .table .entries) j .id ≡ e .id → ⊥)
       → ((j : ℕ) → Used t j → entryAt (t .table .entries) j .site ≡ e .site → ⊥)
       → Good head (withTable t (record { entries = set (t .table .entries) k e; draft = closedDraft }))
       (laidOver (trapBytes head) ((e .site - t .base) ∷ []) mem)
-  good-made k e h free shape used row id site = good-table t mem g _ _ (record {
+  unfolding heldOf
+  good-made k e h free shape used size row id site = good-table t mem g _ _ (record {
     eight = length-set es k e ∙ old .eight;
     entry = stored k e h shape;
     draft = closed-draft _;
@@ -92,13 +99,21 @@ module _ {head : Head} (t : Target) (mem : List ℕ) (g : Good head t mem) where
         (planted-more (trapBytes head) (sites t) mem k (e .site - t .base)
         (λ i q. no-site-free 2 (omega arith) i (q ∙ slot-free t mem g k h free)) (old .planted));
     sized = length-laid (trapBytes head) _ mem ∙ old .sized;
+    held = omega (
+      arith,
+      held-set es k e (omega (arith, old .eight)),
+      places-free _ free,
+      places-used e used,
+      old .held,
+      closed-held,
+    );
   })
 
   -- a breakpoint is removed, its plain bytes put back
   pub good-freed : (k : ℕ) → Used t k
       → Good head (withEntries t (set (t .table .entries) k freshEntry))
       (laidOver (entryAt (t .table .entries) k .plain) ((entryAt (t .table .entries) k .site - t .base) ∷ []) mem)
-  unfolding withEntries siteOf isFree
+  unfolding withEntries siteOf isFree heldOf
   good-freed k (h, u) = good-table t mem g _ _ (record {
     eight = length-set es k freshEntry ∙ old .eight;
     entry = stored k freshEntry h fresh-shaped;
@@ -111,6 +126,7 @@ module _ {head : Head} (t : Target) (mem : List ℕ) (g : Good head t mem) where
         (λ j l. slot-only t mem g j k (omega (arith, eight-sites t mem g)) (h, u)) (no-site-free 2 (omega arith))
         (trapBytes head) refl (old .planted)));
     sized = length-laid (entryAt es k .plain) _ mem ∙ old .sized;
+    held = omega (arith, held-set es k freshEntry (omega (arith, old .eight)), places-free freshEntry refl, old .held);
   })
 
   -- ---- bytes written to the window
@@ -118,7 +134,7 @@ module _ {head : Head} (t : Target) (mem : List ℕ) (g : Good head t mem) where
   pub good-written : (at : ℕ) (bytes : List ℕ)
       → Good head (withEntries t (withPlains (t .table .entries) (plainAfter 2 (sites t) (plains t) at bytes)))
       (memAfter 2 (sites t) mem at bytes)
-  unfolding withEntries
+  unfolding withEntries heldOf
   good-written at bytes = good-table t mem g _ _ (record {
     eight = length-with es _ ∙ old .eight;
     entry = λ k h.
@@ -126,9 +142,10 @@ module _ {head : Head} (t : Target) (mem : List ℕ) (g : Good head t mem) where
         let n : length b ≡ 16 = length-plain-after 2 (sites t) (plains t) at bytes ∙ sixteen-plains t mem g in
         let o = old .entry k h in
         rw (with-at es b k (omega (arith, old .eight)))
-        (record { plain = simp (length-take, length-drop) (omega arith); elements = o .elements; id = o .id });
+        (record { plain = simp (length-take, length-drop) (omega arith); id = o .id });
     draft = with-draft es (old .eight) (t .table .draft) (old .draft) _;
     rows = rows-with es (old .eight) _ (t .base) (t .size) (old .rows);
     planted = rw (sites-with (t .base) es) (planted-written (trapBytes head) (sites t) mem at bytes (old .planted));
     sized = length-mem-after 2 (sites t) mem at bytes ∙ old .sized;
+    held = omega (arith, held-with es (plainAfter 2 (sites t) (plains t) at bytes), old .held);
   })

@@ -1,5 +1,5 @@
 -- A good world stays good: each kind of change that a step makes to the record and to memory. Assumes nothing.
-use mathlib.Core.Path.{_≡_, refl}
+use mathlib.Core.Path.{_≡_, refl, sym}
 use mathlib.Core.Bool.{true, false}
 use mathlib.Core.List.{List}
 use Prim.Native.Nat.{ℕ, _+_, _-_, _≤_, _<_}
@@ -11,7 +11,7 @@ use Rattle.common.proofs.Same.{parts}
 use Rattle.condition.specs.Depth.{wellFormed}
 use Rattle.condition.specs.Add.{roomFor, withElement}
 use Rattle.condition.specs.declared.Room.the-variants.{Fits}
-use Rattle.target_fit.specs.Fit.{stopped, entryOf, markFit}
+use Rattle.target_fit.specs.Fit.{stopped, entryOf, markFit, entriesHeld, draftHeld, heldOf}
 use Rattle.memory.specs.Head.{Head}
 use Rattle.memory.specs.Place.{isSite}
 use Rattle.target.specs.Free.{isFree, firstFree}
@@ -25,7 +25,8 @@ use Rattle.rules.proofs.Facts.{Used, Good}
 use Rattle.rules.proofs.Found.{free-found, at-first, id-first}
 use Rattle.rules.proofs.Parts.{parts-of, good-processes}
 use Rattle.rules.proofs.KeptProcesses.{mark-none, state-parts}
-use Rattle.rules.proofs.KeptDraft.{closed-draft, hand-of, begun-draft, joined-draft}
+use Rattle.rules.proofs.Places.{hand-held, closed-held}
+use Rattle.rules.proofs.KeptDraft.{room-fits, closed-draft, hand-of, begun-draft, joined-draft}
 use Rattle.rules.proofs.KeptTable.{good-draft, good-made, good-freed, good-written}
 
 -- the record is good with its memory
@@ -33,31 +34,41 @@ abbrev pub GoodWorld : Head → World → Type 0
 GoodWorld head w = Good head (w .target) (w .mem)
 
 module _ {head : Head} (w : World) (g : GoodWorld head w) where
+  -- the entries hold no more places than there are
+  few : entriesHeld (w .target .table .entries) ≤ 128
+  unfolding heldOf
+  few = omega (arith, parts-of (w .target) (w .mem) g .table .held)
+
   -- ---- the condition in hand
 
   -- it is dropped
   pub good-dropped : GoodWorld head (dropped w)
   unfolding dropped
-  good-dropped = good-draft (w .target) (w .mem) g _ (closed-draft _)
+  good-dropped = good-draft (w .target) (w .mem) g _ (closed-draft _) (omega (arith, few, closed-held))
 
   -- one is begun, with an id that is free, where an entry is
   pub good-begun : (val : ℕ) → ltb 255 val ≡ false
       → ltb (entryOf (w .target .table .entries) val) (length (w .target .table .entries)) ≡ false
       → leb (length (w .target .table .entries)) (firstFree (w .target .table .entries)) ≡ false
       → Good head (withDraft (w .target) (begun val)) (w .mem)
+  unfolding begun draftHeld
   good-begun val small new room =
       good-draft (w .target) (w .mem) g (begun val)
-      (begun-draft (w .target .table .entries) (g .shaped .entries) val small new room)
+      (begun-draft (w .target .table .entries) (g .shaped .entries) val small new room) (omega (arith, few))
 
   -- an element that fits joins it
-  pub good-joined : (e : Element) → inHand w ≡ true → roomFor (w .target .table .draft) e ≡ Fits
+  pub good-joined : (e : Element) → inHand w ≡ true
+      → roomFor (w .target .table .draft .elements) (heldOf (w .target .table)) e ≡ Fits
       → Good head (withDraft (w .target) (withElement (w .target .table .draft) e)) (w .mem)
-  unfolding inHand
+  unfolding inHand withElement heldOf
   good-joined e hand room =
-      let d = w .target .table .draft in
+      let u = w .target .table in
+      let d = u .draft in
       let o = parts-of (w .target) (w .mem) g .table in
+      let n : eqb (d .active) 0 ≡ false = not-true (eqb (d .active) 0) hand in
       good-draft (w .target) (w .mem) g (withElement d e)
-      (joined-draft (w .target .table .entries) (o .eight) d (o .draft) e (not-true (eqb (d .active) 0) hand) room)
+      (joined-draft (u .entries) (o .eight) d (o .draft) _ e n room)
+      (omega (arith, room-fits (d .elements) _ e room .1, hand-held d n, hand-held (withElement d e) n))
 
   -- ---- processes
 
@@ -83,21 +94,29 @@ module _ {head : Head} (w : World) (g : GoodWorld head w) where
 
   -- one is made
   pub good-planted : (site : ℕ) → inHand w ≡ true → siteFree w site ≡ true
-      → wellFormed (w .target .table .draft .elements) (w .target .table .draft .count) ≡ true
+      → wellFormed (w .target .table .draft .elements) ≡ true
       → GoodWorld head (planted head w site)
   unfolding planted inHand siteFree isSite madeEntry isFree entryOf
   good-planted site hand free formed =
       let es = w .target .table .entries in
       let d = w .target .table .draft in
-      let o = hand-of d es (parts-of (w .target) (w .mem) g .table .draft .fit) (not-true (eqb (d .active) 0) hand) in
+      let n : eqb (d .active) 0 ≡ false = not-true (eqb (d .active) 0) hand in
+      let o = hand-of d es (parts-of (w .target) (w .mem) g .table .draft .fit) n in
       let none : length es ≤ breakpointAt es site = search parts in
       let eight = g .shaped .entries in
       let fits : site - w .target .base + 2 ≤ w .target .size = search parts in
       let low : w .target .base ≤ site = search parts in
       good-made (w .target) (w .mem) g (firstFree es) (madeEntry w site) (o .room)
       (free-found es (omega (arith, o .room)))
-      (record { plain = refl; elements = g .shaped .draftElements; id = g .shaped .draftId }) refl
-      (record { one = refl; even = search parts depth 7; low = low; high = omega arith; formed = formed })
+      (record { plain = refl; id = g .shaped .draftId }) refl (sym (hand-held d n))
+      (record {
+        one = refl;
+        even = search parts depth 7;
+        low = low;
+        high = omega arith;
+        whole = o .whole;
+        formed = formed;
+      })
       (λ j u e. omega (arith, id-first es (d .id) j (omega (arith, u .0)) (u .1) e, o .unused, u .0))
       (λ j u e. omega (arith, at-first es site j (omega (arith, u .0)) (u .1) e, u .0))
 

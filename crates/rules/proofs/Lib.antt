@@ -4,6 +4,7 @@ pub mod Outcomes
 pub mod Replies
 pub mod Refusals
 pub mod Facts
+pub mod Places
 pub mod Slots
 pub mod FitFacts
 pub mod Rows

@@ -14,11 +14,11 @@ use Rattle.common.specs.Same.{allZero}
 use Rattle.common.specs.Text.{padded}
 use Rattle.common.proofs.Cases.{choose}
 use Rattle.common.proofs.Same.{and-both, neither, parts}
-use Rattle.condition.specs.Add.{roomFor, withElement, addedBy, addOf}
+use Rattle.condition.specs.Add.{roomFor, withElement}
 use Rattle.condition.specs.Depth.{wellFormed}
 use Rattle.condition.specs.declared.Room.{Room}
 use Rattle.condition.specs.declared.Room.the-variants.{Fits, Full, Short}
-use Rattle.target_fit.specs.Fit.{stopped, processAt, entryAt, entryOf, windowFit, processesFit, fitOf}
+use Rattle.target_fit.specs.Fit.{stopped, processAt, entryAt, entryOf, windowFit, processesFit, fitOf, heldOf}
 use Rattle.memory.specs.Head.{Head}
 use Rattle.memory.specs.Place.{placeOf}
 use Rattle.memory.specs.Write.{plainRead}
@@ -108,7 +108,7 @@ pub data RequestCase (head : Head) (w : World) : Parsed → Answer → Message �
       → RequestCase head w (Request (Tcondbreak val op)) Nothing Rcondbreak
       (withTarget w (withDraft (w .target) (begun val)))
   plants : {val op : ℕ} → eqb op (code "n") ≡ false → eqb op (code "b") ≡ true → inHand w ≡ true → siteFree w val ≡ true
-      → wellFormed (w .target .table .draft .elements) (w .target .table .draft .count) ≡ true
+      → wellFormed (w .target .table .draft .elements) ≡ true
       → RequestCase head w (Request (Tcondbreak val op)) Nothing Rcondbreak (planted head w val)
   removes : {val op : ℕ} → eqb op (code "n") ≡ false → eqb op (code "b") ≡ false → eqb op (code "d") ≡ true
       → val ≤ 255 → entryOf (w .target .table .entries) val < length (w .target .table .entries)
@@ -116,7 +116,8 @@ pub data RequestCase (head : Head) (w : World) : Parsed → Answer → Message �
       (removed w (entryOf (w .target .table .entries) val))
   adds : {val op : ℕ} → eqb op (code "n") ≡ false → eqb op (code "b") ≡ false → eqb op (code "d") ≡ false
       → inHand w ≡ true
-      → roomFor (w .target .table .draft) (record { letter = op; value = val }) ≡ Fits
+      → roomFor (w .target .table .draft .elements) (heldOf (w .target .table)) (record { letter = op; value = val })
+      ≡ Fits
       → RequestCase head w (Request (Tcondbreak val op)) Nothing Rcondbreak
       (withTarget w (withDraft (w .target)
       (withElement (w .target .table .draft) (record { letter = op; value = val }))))
@@ -292,7 +293,7 @@ module _ (head : Head) (w : World) where
       unfolding setBreakpoint failed isMessage typeOf
       b-of b =
           let d = w .target .table .draft in
-          choose (By true) (inHand w && siteFree w val && wellFormed (d .elements) (d .count))
+          choose (By true) (inHand w && siteFree w val && wellFormed (d .elements))
           (λ e. serving Nothing Rcondbreak _ refl refl (plants n b (search parts) (search parts) (search parts)))
           (λ e. failing Inval)
 
@@ -306,18 +307,17 @@ module _ (head : Head) (w : World) where
             (λ e. failing Inval)
 
         joined-of : eqb op (code "d") ≡ false → inHand w ≡ true → (r : Room)
-            → roomFor (w .target .table .draft) element ≡ r
-            → By true (joined w (addedBy r (w .target .table .draft) element)
-            (addedBy r (w .target .table .draft) element .room))
-        unfolding joined addedBy failed isMessage typeOf
+            → roomFor (w .target .table .draft .elements) (heldOf (w .target .table)) element ≡ r
+            → By true (joined w element r)
+        unfolding joined failed isMessage typeOf
         joined-of d h Fits r = serving Nothing Rcondbreak _ refl refl (adds n b d h r)
         joined-of d h Full r = failing Count
         joined-of d h Short r = failing Inval
 
         element-of : eqb op (code "d") ≡ false → By true (addElement w element)
-        unfolding addElement addOf failed
+        unfolding addElement failed
         element-of d =
-            choose (By true) (inHand w) (λ h. joined-of d h (roomFor (w .target .table .draft) element) refl)
+            choose (By true) (inHand w) (λ h. joined-of d h _ refl)
             (λ h. failing Inval)
 
     condbreak-of : By (not (eqb op (code "d") && true)) (condbreak head w val op)

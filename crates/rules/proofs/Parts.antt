@@ -2,12 +2,13 @@
 use mathlib.Core.Path.{_≡_, _∙_}
 use mathlib.Core.Bool.{true}
 use mathlib.Core.List.{List}
-use Prim.Native.Nat.{ℕ, _+_, _-_, _%_, _<_}
+use Prim.Native.Nat.{ℕ, _+_, _-_, _%_, _<_, _≤_}
 use native.Mathlib.Omega.{arith}
+use borrow.Author.Tests.{le-leb}
 use lib.ListN.{length, getD}
 use Rattle.common.proofs.Same.{parts}
 use Rattle.target_fit.specs.Arrays.{sitesOf}
-use Rattle.target_fit.specs.Fit.{windowFit, processesFit, marksFit, currentFit, draftFit, entryAt}
+use Rattle.target_fit.specs.Fit.{windowFit, processesFit, marksFit, currentFit, draftFit, entryAt, heldOf}
 use Rattle.memory.specs.Head.{Head, trapBytes}
 use Rattle.memory.specs.Overlay.{siteOver}
 use Rattle.memory.proofs.Slots.{covered-by}
@@ -30,7 +31,6 @@ pub record ProcessParts (ps : List Process) (n selected pid : ℕ) : Type 0 wher
 
 -- a condition in hand, beside the entries
 pub record DraftParts (d : Draft) (es : List Entry) : Type 0 where
-  pub elements : length (d .elements) ≡ 16
   pub id : d .id < 256
   pub fit : draftFit d es ≡ true
 
@@ -42,6 +42,7 @@ pub record TableParts (head : Head) (base n : ℕ) (u : Table) (mem : List ℕ) 
   pub rows : Rows base n (u .entries)
   pub planted : Planted (trapBytes head) (sitesOf base (u .entries)) mem
   pub sized : length mem ≡ n
+  pub held : heldOf u ≤ 128
 
 -- the whole record and its memory
 pub record Parts (head : Head) (t : Target) (mem : List ℕ) : Type 0 where
@@ -61,7 +62,7 @@ module _ {head : Head} (t : Target) (mem : List ℕ) where
         table = record {
           eight = g .shaped .entries;
           entry = g .shaped .entry;
-          draft = record { elements = g .shaped .draftElements; id = g .shaped .draftId; fit = c .draft };
+          draft = record { id = g .shaped .draftId; fit = c .draft };
           rows = record {
             row = λ k u. let x = f .used k u in
                 record {
@@ -69,14 +70,15 @@ module _ {head : Head} (t : Target) (mem : List ℕ) where
                   even = x .even;
                   low = x .low;
                   high = rw (g .sized) at (x .high);
-                  formed =
-                      x .formed;
+                  whole = x .whole;
+                  formed = x .formed;
                 };
             ids = f .idsDiffer;
             sites = f .sitesDiffer;
           };
           planted = planted-of t mem g;
           sized = g .sized;
+          held = f .held;
         };
       }
 
@@ -101,6 +103,7 @@ module _ {head : Head} (t : Target) (mem : List ℕ) where
           even = x .even;
           low = x .low;
           high = omega arith;
+          whole = x .whole;
           formed = x .formed;
           trap0 = p s (omega arith) (covered-by 2 (sites t) s k d (at ∙ omega arith)) ∙ rw z;
           trap1 = p (s + 1) i (covered-by 2 (sites t) (s + 1) k d (at ∙ omega arith)) ∙ rw o;
@@ -115,7 +118,6 @@ module _ {head : Head} (t : Target) (mem : List ℕ) where
           shaped = record {
             entries = u .eight;
             entry = u .entry;
-            draftElements = u .draft .elements;
             draftId = u .draft .id;
             processes = p .four;
           };
@@ -125,6 +127,7 @@ module _ {head : Head} (t : Target) (mem : List ℕ) where
             marks = p .marks;
             current = p .current;
             draft = u .draft .fit;
+            held = le-leb _ _ (u .held);
             entries = entries-fit head t mem used-by (u .rows .ids) (u .rows .sites);
           });
           sized = u .sized;

@@ -247,10 +247,10 @@ module _ {head : Head} (s : Setup) (b : Book) (t : Target) (mem : List ℕ) (a :
 
   -- its condition has the truth that it has over the book
   reads-holds : (regs : List ℕ) (pid : ℕ) (e : Entry)
-      → evalFrom (fetchBy head s b) pid (take (e .count) (e .elements)) (1 ∷ []) ≡ holds head (world t mem regs) pid e
+      → evalFrom (fetchBy head s b) pid (e .elements) (1 ∷ []) ≡ holds head (world t mem regs) pid e
   unfolding holds evaluateOf
   reads-holds regs pid e =
-      sym (ap (λ (read : ℕ → Fetched). evalFrom read pid (take (e .count) (e .elements)) (1 ∷ [])) reads-fetch)
+      sym (ap (λ (read : ℕ → Fetched). evalFrom read pid (e .elements) (1 ∷ [])) reads-fetch)
 
   -- ---- every step
 

@@ -23,7 +23,8 @@ pub record Row (base n : ℕ) (e : Entry) : Type 0 where
   pub even : e .site % 2 ≡ 0
   pub low : base ≤ e .site
   pub high : e .site - base + 2 ≤ n
-  pub formed : wellFormed (e .elements) (e .count) ≡ true
+  pub whole : length (e .elements) ≡ e .count
+  pub formed : wellFormed (e .elements) ≡ true
 
 -- every used entry of a table
 pub record Rows (base n : ℕ) (es : List Entry) : Type 0 where
@@ -89,7 +90,14 @@ module _ (es : List Entry) (size : length es ≡ 8) (bytes : List ℕ) where
     row = λ k u.
         let x = r .row k (used-with k u) in
         rw (with-at es bytes k (omega (arith, u .0)))
-        (record { one = x .one; even = x .even; low = x .low; high = x .high; formed = x .formed });
+        (record {
+          one = x .one;
+          even = x .even;
+          low = x .low;
+          high = x .high;
+          whole = x .whole;
+          formed = x .formed;
+        });
     ids = differ-with (λ e. e .id) (λ e p. refl) (r .ids);
     sites = differ-with (λ e. e .site) (λ e p. refl) (r .sites);
   }
