@@ -1,4 +1,4 @@
--- Laws of the elements of a condition taken one after the other, of the depth, and of one element more. Assumes
+-- Laws of the elements of a condition taken one after the other, of the depth, and of room for one more. Assumes
 -- nothing.
 use mathlib.Core.Path.{_≡_, refl, sym, _∙_}
 use mathlib.Core.Bool.{true, cond}
@@ -6,32 +6,37 @@ use mathlib.Core.List.{List, [], _∷_}
 use Prim.Native.Nat.{ℕ, _+_, _-_, _<_, _≤_}
 use native.Mathlib.Numerals.{add-one}
 use native.Mathlib.Omega.{arith}
-use borrow.Author.Tests.{eqb-true, ne-eqb, le-leb, lt-leb}
+use borrow.Author.Tests.{eqb-true, ltb-true, ne-eqb, le-leb, lt-leb}
 use lib.Dec.{eqb}
-use lib.ListN.{length, getD, take, drop, drop-of-length-le}
-use lib.Seq.{drop-cons, getD-take, length-take-le}
+use lib.ListN.{length, getD, take, drop, length-take, length-drop, drop-of-length-le}
+use lib.Seq.{drop-cons, getD-take, getD-drop}
 use types.Run.{OneOf}
 use Rattle.common.specs.Keys.{among, byKeys}
 use Rattle.common.specs.Text.{codes}
 use Rattle.common.proofs.Cases.{on-less, either}
 use Rattle.common.proofs.Keys.{at-keys, among-no, among-none, chosen}
 use Rattle.target.specs.declared.Element.{Element}
-use Rattle.target.specs.declared.Draft.{Draft}
 use Rattle.target.specs.Fresh.{noElement}
-use Rattle.condition.specs.Depth.{depthAfter, depthFrom, depthOf, wellFormed}
-use Rattle.condition.specs.Add.{roomFor, withElement, addedBy, addOf}
+use Rattle.condition.specs.Depth.{depthAfter, depthFrom, depthOf, wellFormed, wellBegun}
+use Rattle.condition.specs.Add.{roomBy}
 use Rattle.condition.specs.declared.Room.the-variants.{Fits, Full, Short}
 
--- ---- the first n elements of a list, from place i on
+-- ---- the n elements of a pool from a place on, and those of them from place i on
 
-module _ (l : List Element) (n i : ℕ) (z : n ≤ length l) where
-  pub next-element : i < n → drop i (take n l) ≡ getD l i noElement ∷ drop (i + 1) (take n l)
-  next-element h =
-      let k : i < length (take n l) = omega (arith, length-take-le n l z) in
-      rw (add-one, drop-cons (take n l) i noElement k, getD-take n l i noElement h)
+module _ (pool : List Element) (from n i : ℕ) where
+  pub next-element : i < n → from + i < length pool
+      → drop i (take n (drop from pool)) ≡ getD pool (from + i) noElement ∷ drop (i + 1) (take n (drop from pool))
+  next-element h z =
+      let k : i < length (take n (drop from pool)) = simp (length-take, length-drop) (omega arith) in
+      rw (
+        add-one,
+        drop-cons (take n (drop from pool)) i noElement k,
+        getD-take n (drop from pool) i noElement h,
+        getD-drop from pool i noElement,
+      )
 
-  pub no-element : n ≤ i → drop i (take n l) ≡ []
-  no-element h = drop-of-length-le (take n l) {i = i} (omega (arith, length-take-le n l z))
+  pub no-element : n ≤ i → drop i (take n (drop from pool)) ≡ []
+  no-element h = drop-of-length-le (take n (drop from pool)) {i = i} (simp length-take (omega arith))
 
 -- ---- the depth after an element
 
@@ -80,24 +85,28 @@ module _ (d letter value r : ℕ) (h : d ≡ 0 → ⊥) where
 abbrev pub Reached : List Element → ℕ → ℕ → Type 0
 Reached l i d = depthFrom 1 l ≡ depthFrom d (drop i l)
 
-module _ (l : List Element) (n i d : ℕ) (z : n ≤ length l) (p : Reached (take n l) i d) where
-  pub reach-more : (r : ℕ) → i < n → r ≡ depthAfter d (getD l i noElement .letter) (getD l i noElement .value)
-      → Reached (take n l) (i + 1) r
+module _ (pool : List Element) (from n i d : ℕ) (p : Reached (take n (drop from pool)) i d) where
+  pub reach-more : (e : Element) (r : ℕ) → i < n → from + i < length pool → e ≡ getD pool (from + i) noElement
+      → r ≡ depthAfter d (e .letter) (e .value) → Reached (take n (drop from pool)) (i + 1) r
   unfolding depthFrom
-  reach-more r h e = p ∙ rw (next-element l n i z h, e)
+  reach-more e r h z q k = p ∙ rw (next-element pool from n i h z, ← q, k)
 
-  pub reach-all : n ≤ i → n ≤ 16 → d ≡ depthOf l n
+  pub reach-all : n ≤ i → length (take n (drop from pool)) ≤ 64 → d ≡ depthOf (take n (drop from pool))
   unfolding depthFrom depthOf
-  reach-all h k = sym (rw (le-leb n 16 k) (p ∙ rw (no-element l n i z h)))
+  reach-all h k = sym (rw (le-leb (length (take n (drop from pool))) 64 k) (p ∙ rw (no-element pool from n i h)))
 
-pub too-many : (l : List Element) (n : ℕ) → 16 < n → 0 ≡ depthOf l n
+pub too-many : (l : List Element) → 64 < length l → 0 ≡ depthOf l
 unfolding depthOf
-too-many l n h = rw (lt-leb n 16 h)
+too-many l h = rw (lt-leb (length l) 64 h)
 
--- a well-formed condition has at most sixteen elements
-pub formed-few : (l : List Element) (n : ℕ) → wellFormed l n ≡ true → n ≤ 16
+-- a condition that is well formed, or begun, has at most 64 elements
+pub formed-few : (l : List Element) → wellFormed l ≡ true → length l ≤ 64
 unfolding wellFormed
-formed-few l n e = on-less 16 n (λ h. absurd (omega (arith, too-many l n h, eqb-true (depthOf l n) 1 e))) (λ h. h)
+formed-few l e = on-less 64 (length l) (λ h. absurd (omega (arith, too-many l h, eqb-true (depthOf l) 1 e))) (λ h. h)
+
+pub begun-few : (l : List Element) → wellBegun l ≡ true → length l ≤ 64
+unfolding wellBegun
+begun-few l e = on-less 64 (length l) (λ h. absurd (omega (arith, too-many l h, ltb-true 0 (depthOf l) e))) (λ h. h)
 
 -- ---- a bound: an element adds one at most
 
@@ -124,23 +133,33 @@ from-le d (e ∷ es) =
     let r = depthAfter d (e .letter) (e .value) in
     omega (arith, from-le r es, after-le d (e .letter) (e .value))
 
-pub depth-le : (l : List Element) (n : ℕ) → n ≤ length l → n ≤ 16 → depthOf l n ≤ n + 1
+few-le : (l : List Element) → length l ≤ 64 → depthOf l ≤ length l + 1
 unfolding depthOf
-depth-le l n z h = rw (le-leb n 16 h) (omega (arith, from-le 1 (take n l), length-take-le n l z))
+few-le l h = rw (le-leb (length l) 64 h) (omega (arith, from-le 1 l))
 
--- ---- one element more
+pub depth-le : (l : List Element) → depthOf l ≤ length l + 1
+depth-le l = on-less 64 (length l) (λ h. omega (arith, too-many l h)) (few-le l)
 
-module _ (d : Draft) (e : Element) where
-  pub add-full : 16 ≤ d .count → record { room = Full; draft = d } ≡ addOf d e
-  unfolding addOf roomFor addedBy
-  add-full h = rw (le-leb 16 (d .count) h)
+pub depth-most : (l : List Element) → depthOf l ≤ 65
+depth-most l =
+    on-less 64 (length l) (λ h. omega (arith, too-many l h)) (λ h. omega (arith, few-le l h))
 
-  module _ (depth after : ℕ) (h : d .count < 16) (p : depth ≡ depthOf (d .elements) (d .count))
-      (q : after ≡ depthAfter depth (e .letter) (e .value)) where
-    pub add-short : after ≡ 0 → record { room = Short; draft = d } ≡ addOf d e
-    unfolding addOf roomFor addedBy
-    add-short k = rw (lt-leb 16 (d .count) h, ← p, ← q, k)
+-- ---- room for one element more
 
-    pub add-fits : (after ≡ 0 → ⊥) → record { room = Fits; draft = withElement d e } ≡ addOf d e
-    unfolding addOf roomFor addedBy
-    add-fits k = rw (lt-leb 16 (d .count) h, ← p, ← q, ne-eqb after 0 k)
+module _ (depth n held letter value : ℕ) where
+  pub room-many : 64 ≤ n → Full ≡ roomBy depth n held letter value
+  unfolding roomBy
+  room-many h = rw (le-leb 64 n h)
+
+  pub room-full : n < 64 → 128 ≤ held → Full ≡ roomBy depth n held letter value
+  unfolding roomBy
+  room-full h k = rw (lt-leb 64 n h, le-leb 128 held k)
+
+  module _ (after : ℕ) (h : n < 64) (k : held < 128) (q : after ≡ depthAfter depth letter value) where
+    pub room-short : after ≡ 0 → Short ≡ roomBy depth n held letter value
+    unfolding roomBy
+    room-short e = rw (lt-leb 64 n h, lt-leb 128 held k, ← q, e)
+
+    pub room-fits : (after ≡ 0 → ⊥) → Fits ≡ roomBy depth n held letter value
+    unfolding roomBy
+    room-fits e = rw (lt-leb 64 n h, lt-leb 128 held k, ← q, ne-eqb after 0 e)

@@ -95,30 +95,30 @@ module _ (read : ℕ → Fetched) (pid letter value : ℕ) (st : List ℕ) where
 -- ---- the elements from a place on, over a stack
 
 -- the loop's invariant: the truth is that of the elements from place i on, over the stack
-abbrev pub Remains : (ℕ → Fetched) → ℕ → List Element → ℕ → ℕ → List ℕ → Type 0
-Remains read pid l n i st = evaluateOf read pid l n ≡ evalFrom read pid (drop i (take n l)) st
+abbrev pub Remains : (ℕ → Fetched) → ℕ → List Element → ℕ → List ℕ → Type 0
+Remains read pid l i st = evaluateOf read pid l ≡ evalFrom read pid (drop i l) st
 
-pub remains-all : (read : ℕ → Fetched) (pid : ℕ) (l : List Element) (n : ℕ) (st : List ℕ) → st ≡ 1 ∷ []
-    → Remains read pid l n 0 st
+pub remains-all : (read : ℕ → Fetched) (pid : ℕ) (l : List Element) (st : List ℕ) → st ≡ 1 ∷ []
+    → Remains read pid l 0 st
 unfolding evaluateOf
-remains-all read pid l n st e = rw e
+remains-all read pid l st e = rw e
 
-module _ (read : ℕ → Fetched) (pid : ℕ) (l : List Element) (n i : ℕ) (z : n ≤ length l) (st : List ℕ)
-    (p : Remains read pid l n i st) where
-  module _ (out : Bool) (h : i < n) (q : out ≡ escapes read (getD l i noElement .letter) st) where
-    pub remains-more : (st' : List ℕ) → out ≡ false
-        → st' ≡ stackAfter read pid (getD l i noElement .letter) (getD l i noElement .value) st
-        → Remains read pid l n (i + 1) st'
+module _ (read : ℕ → Fetched) (pid : ℕ) (pool : List Element) (from n i : ℕ) (st : List ℕ)
+    (p : Remains read pid (take n (drop from pool)) i st) where
+  module _ (out : Bool) (e : Element) (h : i < n) (z : from + i < length pool)
+      (w : e ≡ getD pool (from + i) noElement) (q : out ≡ escapes read (e .letter) st) where
+    pub remains-more : (st' : List ℕ) → out ≡ false → st' ≡ stackAfter read pid (e .letter) (e .value) st
+        → Remains read pid (take n (drop from pool)) (i + 1) st'
     unfolding evalFrom
-    remains-more st' f s = p ∙ rw (next-element l n i z h, ← q, f, ← s)
+    remains-more st' f s = p ∙ rw (next-element pool from n i h z, ← w, ← q, f, ← s)
 
-    pub remains-out : out ≡ true → true ≡ evaluateOf read pid l n
+    pub remains-out : out ≡ true → true ≡ evaluateOf read pid (take n (drop from pool))
     unfolding evalFrom
-    remains-out f = sym (p ∙ rw (next-element l n i z h, ← q, f))
+    remains-out f = sym (p ∙ rw (next-element pool from n i h z, ← w, ← q, f))
 
-  pub remains-none : (v : ℕ) → n ≤ i → v ≡ top st → truth v ≡ evaluateOf read pid l n
+  pub remains-none : (v : ℕ) → n ≤ i → v ≡ top st → truth v ≡ evaluateOf read pid (take n (drop from pool))
   unfolding evalFrom
-  remains-none v h q = sym (p ∙ rw (no-element l n i z h, ← q))
+  remains-none v h q = sym (p ∙ rw (no-element pool from n i h, ← q))
 
 -- ---- the reader
 

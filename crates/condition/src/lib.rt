@@ -40,6 +40,7 @@ fn depth_after(d: u32, letter: u32, value: u32) -> u32
         return 0;
     }
     match letter {
+        // k p, then *, then & = ! a o
         0x6b | 0x70 => d + 1,
         0x2a => { if value == 0 { d } else { 0 } }
         0x26 | 0x3d | 0x21 | 0x61 | 0x6f => { if value == 0 { d - 1 } else { 0 } }
@@ -47,10 +48,11 @@ fn depth_after(d: u32, letter: u32, value: u32) -> u32
     }
 }
 
-// The depth after a condition; 0 where it is no beginning of one.
+// The depth after a condition; 0 where it is no beginning of one. Its elements are all in the pool.
 pub fn depth_of(places: &[u32; Table::WORDS], from: usize, count: usize) -> u32
     requires { ⌜ (from + count ≤ maxPlaces) × (count ≤ maxElements) ⌝ }
-    ensures { λ r. ⌜ (r ≡ depthOf (take count (drop from (elementsOf (now (places .entry)))))) × (r ≤ 65) ⌝ }
+    ensures { λ r. ⌜ (r ≡ depthOf (take count (drop from (elementsOf (now (places .entry)))))) × (r ≤ 65)
+        × (length (take count (drop from (elementsOf (now (places .entry))))) ≡ count) ⌝ }
 {
     let mut d: u32 = 1;
     let mut i: usize = 0;
@@ -90,6 +92,7 @@ fn join(letter: u32, x: u32, y: u32) -> u32
     ensures { λ r. ⌜ r ≡ joinOf letter x y ⌝ }
 {
     match letter {
+        // & = ! a, and o
         0x26 => x & y,
         0x3d => flag(x == y),
         0x21 => flag(x != y),
@@ -136,6 +139,7 @@ fn value_of(
 {
     let letter = e.letter;
     match letter {
+        // k p *
         0x6b => Fetched::Word(flag(pid == e.value)),
         0x70 => Fetched::Word(e.value),
         0x2a => fetch(mem, base, sites, plain, y),
@@ -167,6 +171,7 @@ fn stack_without(letter: u32, at: usize) -> usize
         × ((cells : List ℕ) → length cells ≡ 65 → drop r cells ≡ leftBy letter (drop at cells)) ⌝ }
 {
     match letter {
+        // k p *
         0x6b => at,
         0x70 => at,
         0x2a => below(at),

@@ -5,7 +5,7 @@ use target::Entry;
 use target::Table;
 ghost use mathlib.Core.Path.{_≡_};
 ghost use Prim.Native.Nat.{_*_, _≤_, _<_};
-ghost use lib.ListN.{getD};
+ghost use lib.ListN.{length, getD};
 ghost use Rattle.target.specs.Fresh.{noElement};
 ghost use Rattle.target.specs.Limits.{maxEntries, maxPlaces};
 ghost use Rattle.target.specs.View.{elementsOf, sizeOf, startAt, heldBy};
@@ -42,10 +42,11 @@ pub fn held(entries: [Entry; Table::ENTRIES], count: u8) -> usize
     start_of(entries, Table::ENTRIES) + count as usize
 }
 
-// The element at a place.
+// The element at a place. That the pool has all its places is known only where its words are lent as a slice.
 pub fn element_at(places: &[u32; Table::WORDS], p: usize) -> Element
     requires { ⌜ p < maxPlaces ⌝ }
-    ensures { λ r. ⌜ r ≡ getD (elementsOf (now (places .entry))) p noElement ⌝ }
+    ensures { λ r. ⌜ (r ≡ getD (elementsOf (now (places .entry))) p noElement)
+        × (length (elementsOf (now (places .entry))) ≡ maxPlaces) ⌝ }
 {
     let words = &places[..];
     Element {
@@ -55,7 +56,12 @@ pub fn element_at(places: &[u32; Table::WORDS], p: usize) -> Element
 }
 
 // An element joins the condition in hand.
-pub fn join(places: &mut [u32; Table::WORDS], entries: [Entry; Table::ENTRIES], count: u8, e: Element)
+pub fn join(
+    places: &mut [u32; Table::WORDS],
+    entries: [Entry; Table::ENTRIES],
+    count: u8,
+    e: Element,
+)
     requires { ⌜ heldBy entries count < maxPlaces ⌝ }
     ensures { λ _. ⌜ elementsOf (now (places .exit)) ≡ joined entries count e (elementsOf (now (places .entry))) ⌝ }
 {
@@ -66,7 +72,12 @@ pub fn join(places: &mut [u32; Table::WORDS], entries: [Entry; Table::ENTRIES], 
 }
 
 // The elements of the condition in hand become those of entry k.
-pub fn plant(places: &mut [u32; Table::WORDS], entries: [Entry; Table::ENTRIES], count: u8, k: usize)
+pub fn plant(
+    places: &mut [u32; Table::WORDS],
+    entries: [Entry; Table::ENTRIES],
+    count: u8,
+    k: usize,
+)
     requires { ⌜ (k < maxEntries) × (heldBy entries count ≤ maxPlaces) ⌝ }
     ensures { λ _. ⌜ elementsOf (now (places .exit)) ≡ planted entries count k (elementsOf (now (places .entry))) ⌝ }
 {
@@ -78,7 +89,12 @@ pub fn plant(places: &mut [u32; Table::WORDS], entries: [Entry; Table::ENTRIES],
 }
 
 // The elements of entry k go after all that are held.
-pub fn remove(places: &mut [u32; Table::WORDS], entries: [Entry; Table::ENTRIES], count: u8, k: usize)
+pub fn remove(
+    places: &mut [u32; Table::WORDS],
+    entries: [Entry; Table::ENTRIES],
+    count: u8,
+    k: usize,
+)
     requires { ⌜ (k < maxEntries) × (heldBy entries count ≤ maxPlaces) ⌝ }
     ensures { λ _. ⌜ elementsOf (now (places .exit)) ≡ removed entries count k (elementsOf (now (places .entry))) ⌝ }
 {

@@ -5,29 +5,30 @@ use mathlib.Core.Path.{_≡_, refl}
 use Prim.Native.Nat.{_≤_, _-_, _+_}
 use native.Mathlib.Omega.{arith}
 use borrow.Author.Needs.{needs}
-use lib.ListN.{length, take}
-use Rattle.condition.proofs.Depth.{Reached, reach-more, reach-all, too-many}
+use denote.Ref.{now}
+use lib.ListN.{length, take, drop, length-drop}
+use lib.Seq.{length-take-le}
+use Rattle.target.specs.View.{elementsOf}
+use Rattle.condition.proofs.Depth.{Reached, reach-more, reach-all}
 use Rattle.condition.proofs.depth_of.Statement.{statement}
 use Rattle.condition.proofs.depth_of.Tie as tie
 
 abbrev Inv-loop : tie.InvT-loop
-Inv-loop count elements n d₀ i₀ d i =
-    (n ≤ 16) × (i ≤ n) × (d ≤ i + 1) × (length elements ≡ 16) × Reached (take n elements) i d
+Inv-loop places from count d₀ i₀ d i =
+    (i ≤ count) × (d ≤ i + 1) × (i ≤ length (drop from (elementsOf places)))
+    × Reached (take count (drop from (elementsOf places))) i d
 
 abbrev μ-loop : tie.MeasureT-loop
-μ-loop count elements n d₀ i₀ d i = n - i
-
-returns : tie.Need-returns Inv-loop μ-loop
-returns c = (too-many _ _ (c .if1 .taken), omega arith)
+μ-loop places from count d₀ i₀ d i = count - i
 
 loop-holds : tie.Need-loop-holds Inv-loop μ-loop
-loop-holds c = (c .if1 .left, search needs, search needs, search needs, refl)
+loop-holds c = (omega arith, omega arith, omega arith, refl)
 
-mul-e : tie.Need-mul-e Inv-loop μ-loop
-mul-e c = omega arith
+add-element-at : tie.Need-add-element-at Inv-loop μ-loop
+add-element-at c = omega arith
 
-array-copy-out-e : tie.Need-array-copy-out-e Inv-loop μ-loop
-array-copy-out-e c = omega arith
+element-at-requires : tie.Need-element-at-requires Inv-loop μ-loop
+element-at-requires c κs = omega arith
 
 depth-after-requires : tie.Need-depth-after-requires Inv-loop μ-loop
 depth-after-requires c κs = omega arith
@@ -40,18 +41,28 @@ loop-less c = omega arith
 
 loop-again : tie.Need-loop-again Inv-loop μ-loop
 loop-again c =
-    let o = c .before .before .before .loop .inv in (
-      o .0,
+    let l = c .before .before .before in
+    let a = l .before .args in
+    let o = l .loop .inv in
+    let e = c .before .element-at .ensures in (
       omega arith,
       omega arith,
-      o .3,
-      reach-more _ _ _ _ (omega arith) (o .4) _ (c .before .before .loop-test .taken) (c .depth-after .ensures .0),
+      simp length-drop (omega (arith, e .1)),
+      reach-more (elementsOf (now (a .places))) (a .from) (a .count) (l .loop .i) (l .loop .d) (o .3) _ _
+          (c .before .before .loop-test .taken) (omega (arith, e .1)) (e .0) (c .depth-after .ensures .0),
     )
 
-returns-2 : tie.Need-returns-2 Inv-loop μ-loop
-returns-2 c =
-    let o = c .before .loop .inv in
-    (reach-all _ _ _ _ (omega arith) (o .4) (c .loop-test .left) (o .0), omega arith)
+returns : tie.Need-returns Inv-loop μ-loop
+returns c =
+    let l = c .before in
+    let a = l .before .args in
+    let pool = elementsOf (now (a .places)) in
+    let z = length-take-le (a .count) (drop (a .from) pool) (omega arith) in (
+      reach-all pool (a .from) (a .count) (l .loop .i) (l .loop .d) (l .loop .inv .3) (c .loop-test .left)
+          (rw z (omega arith)),
+      omega arith,
+      z,
+    )
 
 pub depth-of-spec : {M : Type 1} → statement M
 depth-of-spec =
@@ -59,12 +70,11 @@ depth-of-spec =
     (tie.spec
     Inv-loop
     μ-loop
-    returns
     loop-holds
-    mul-e
-    array-copy-out-e
+    add-element-at
+    element-at-requires
     depth-after-requires
     add-i
     loop-less
     loop-again
-    returns-2)
+    returns)

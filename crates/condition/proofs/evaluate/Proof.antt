@@ -6,9 +6,10 @@ use mathlib.Core.List.{List}
 use Prim.Native.Nat.{ℕ, _≤_, _-_, _+_}
 use native.Mathlib.Omega.{arith}
 use borrow.Author.Needs.{needs}
-use lib.ListN.{length, getD, drop, length-set}
+use denote.Ref.{now}
+use lib.ListN.{length, take, drop, length-set}
 use Rattle.memory.specs.Head.{house}
-use Rattle.target.specs.Fresh.{noElement}
+use Rattle.target.specs.View.{elementsOf}
 use Rattle.target.specs.declared.Element.{Element}
 use Rattle.condition.specs.Evaluate.{top, fetchOf}
 use Rattle.condition.specs.declared.Fetched.{Fetched}
@@ -19,12 +20,12 @@ use Rattle.condition.proofs.evaluate.Statement.{statement}
 use Rattle.condition.proofs.evaluate.Tie as tie
 
 abbrev Inv-loop : tie.InvT-loop
-Inv-loop mem base sites plain pid count elements n cells₀ at₀ i₀ cells at i =
-    (n ≤ 16) × (i ≤ n) × (16 ≤ at + i) × (at ≤ 16) × (length elements ≡ 16) × (length cells ≡ 17)
-    × Remains (fetchOf house sites plain mem base) pid elements n i (drop at cells)
+Inv-loop mem base sites plain pid places from count cells₀ at₀ i₀ cells at i =
+    (i ≤ count) × (64 ≤ at + i) × (at ≤ 64) × (length cells ≡ 65)
+    × Remains (fetchOf house sites plain mem base) pid (take count (drop from (elementsOf places))) i (drop at cells)
 
 abbrev μ-loop : tie.MeasureT-loop
-μ-loop mem base sites plain pid count elements n cells₀ at₀ i₀ cells at i = n - i
+μ-loop mem base sites plain pid places from count cells₀ at₀ i₀ cells at i = count - i
 
 -- where the value of an element is known: the loop's head, and the element
 abbrev head : tie.After-value-of Inv-loop μ-loop → tie.At-loop Inv-loop μ-loop
@@ -34,7 +35,7 @@ abbrev start : tie.After-value-of Inv-loop μ-loop → tie.Start Inv-loop μ-loo
 start v = head v .before .before
 
 abbrev element : tie.After-value-of Inv-loop μ-loop → Element
-element v = getD (start v .args .t6) (head v .loop .i) noElement
+element v = v .before .before .before .before .before .before .element-at .result
 
 abbrev read : tie.After-value-of Inv-loop μ-loop → ℕ → Fetched
 read v = let a = start v .args in fetchOf house (a .sites .now) (a .plain .now) (a .mem .now) (a .base)
@@ -47,26 +48,24 @@ known : (v : tie.After-value-of Inv-loop μ-loop)
 known v =
     let b = v .before .before in
     let y = b .before .before .top-at .ensures in
-    let x = v .before .top-at2 .ensures ∙ ap top (b .below .ensures .3 _ (head v .loop .inv .5)) in
+    let x = v .before .top-at2 .ensures ∙ ap top (b .below .ensures .3 _ (head v .loop .inv .3)) in
     v .value-of .ensures ∙ given-by (read v) (start v .args .pid) (element v .letter) (element v .value) (stack v) _ _ x
     y
 
 loop-holds : tie.Need-loop-holds Inv-loop μ-loop
 loop-holds c = (
-  c .before .pre,
   omega arith,
   omega arith,
   omega arith,
   search needs,
-  search needs,
-  remains-all _ _ _ _ _ refl,
+  remains-all _ _ _ _ refl,
 )
 
-mul-e : tie.Need-mul-e Inv-loop μ-loop
-mul-e c = omega arith
+add-element-at : tie.Need-add-element-at Inv-loop μ-loop
+add-element-at c = omega arith
 
-array-copy-out-e : tie.Need-array-copy-out-e Inv-loop μ-loop
-array-copy-out-e c = omega arith
+element-at-requires : tie.Need-element-at-requires Inv-loop μ-loop
+element-at-requires c κs = omega arith
 
 top-at-requires : tie.Need-top-at-requires Inv-loop μ-loop
 top-at-requires c κs = search needs
@@ -92,8 +91,11 @@ returns c =
     let o = head v .loop .inv in
     let q = got-outside (read v) (start v .args .pid) (element v .letter) (element v .value) (stack v) _ (known v)
     (c .enum-told .given .1) in
-    remains-out _ _ _ _ _ (omega arith) _ (o .6) true
-    (v .before .before .before .before .before .before .before .loop-test .taken) q refl
+    let b = v .before .before .before .before .before .before in
+    let a = start v .args in
+    remains-out (read v) (a .pid) (elementsOf (now (a .places))) (a .from) (a .count) (head v .loop .i) (stack v)
+    (o .4) true _ (b .before .loop-test .taken) (omega (arith, b .element-at .ensures .1))
+    (b .element-at .ensures .0) q refl
 
 stack-without-requires : tie.Need-stack-without-requires Inv-loop μ-loop
 stack-without-requires c κs = (omega arith, omega arith)
@@ -122,18 +124,18 @@ loop-again c =
     let g = c .before .before .found .given .1 in
     let word : ℕ = c .before .before .found .given .0 .0 in
     let a = start v .args in
+    let b = v .before .before .before .before .before .before in
     let e = element v in (
-      o .0,
       omega arith,
       omega arith,
       omega arith,
-      o .4,
-      length-set cells (from - 1) word ∙ o .5,
-      remains-more _ _ _ _ _ (omega arith) _ (o .6) false
-          (v .before .before .before .before .before .before .before .loop-test .taken)
+      length-set cells (from - 1) word ∙ o .3,
+      remains-more (read v) (a .pid) (elementsOf (now (a .places))) (a .from) (a .count) (head v .loop .i) (stack v)
+          (o .4) false _ (b .before .loop-test .taken) (omega (arith, b .element-at .ensures .1))
+          (b .element-at .ensures .0)
           (got-inside (read v) (a .pid) (e .letter) (e .value) (stack v) _ (known v) word g) _ refl
           (got-stack (read v) (a .pid) (e .letter) (e .value) (stack v) _ (known v) word g _ (drop from cells)
-          (c .stack-without .ensures .2 cells (o .5)) (pushed cells from 17 (o .5) word (omega arith) (omega arith))),
+          (c .stack-without .ensures .2 cells (o .3)) (pushed cells from 65 (o .3) word (omega arith) (omega arith))),
     )
 
 top-at-requires-3 : tie.Need-top-at-requires-3 Inv-loop μ-loop
@@ -141,8 +143,11 @@ top-at-requires-3 c κs = search needs
 
 returns-2 : tie.Need-returns-2 Inv-loop μ-loop
 returns-2 c =
-    let o = c .before .before .before .loop .inv in
-    remains-none _ _ _ _ _ (omega arith) _ (o .6) _ (c .before .before .loop-test .left) (c .top-at3 .ensures)
+    let l = c .before .before .before in
+    let a = l .before .before .args in
+    remains-none (fetchOf house (now (a .sites)) (now (a .plain)) (now (a .mem)) (a .base)) (a .pid)
+    (elementsOf (now (a .places))) (a .from) (a .count) (l .loop .i) (drop (l .loop .at) (l .loop .cells))
+    (l .loop .inv .4) _ (c .before .before .loop-test .left) (c .top-at3 .ensures)
 
 pub evaluate-spec : {M : Type 1} → statement M
 evaluate-spec =
@@ -151,8 +156,8 @@ evaluate-spec =
     Inv-loop
     μ-loop
     loop-holds
-    mul-e
-    array-copy-out-e
+    add-element-at
+    element-at-requires
     top-at-requires
     below-requires
     top-at-requires-2

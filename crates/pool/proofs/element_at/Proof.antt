@@ -1,8 +1,9 @@
 -- `pool::element_at` meets its contract: two words read are one element read. Assumes nothing.
-use mathlib.Core.Path.{sym}
+use mathlib.Core.Path.{_≡_, sym}
 use denote.Ref.{now}
+use lib.ListN.{length}
 use Rattle.target.specs.Fresh.{noElement}
-use Rattle.pool.proofs.Words.{element-words}
+use Rattle.pool.proofs.Words.{elements-length, element-words}
 use borrow.Author.Needs.{needs}
 use Rattle.pool.proofs.element_at.Statement.{statement}
 use Rattle.pool.proofs.element_at.Tie as tie
@@ -31,7 +32,10 @@ shared-slice-read-t13 c = search needs
 returns : tie.Need-returns
 returns c =
     let s = c .before .before .before in
-    sym (element-words (now (s .args .places)) (s .args .p) 128 noElement (search needs) (s .pre))
+    let z : length (now (s .args .places)) ≡ 256 = search needs in (
+      sym (element-words (now (s .args .places)) (s .args .p) 128 noElement z (s .pre)),
+      elements-length (now (s .args .places)) 128 z,
+    )
 
 pub element-at-spec : {M : Type 1} → statement M
 element-at-spec =
