@@ -8,7 +8,7 @@ use Rattle.target_fit.specs.declared.Scan.{Scan}
 use Rattle.rules.specs.Breakpoint.{sites, plains}
 use Rattle.target.specs.Free.{isFree}
 use Rattle.target.specs.Limits.{maxEntries}
-use Rattle.target.specs.declared.Target.{Target}
+use Rattle.target.specs.View.{Target}
 
 -- the sites as an array, the window at an even address, and each breakpoint at an even one that is not below it
 pub record Findable (t : Target) (s : Scan) : Type 0 where
@@ -22,4 +22,6 @@ pub record Removable (t : Target) (s : Scan) (k : ℕ) : Type 0 where
   pub traps : s .sites ≡ sites t
   pub plain : s .plain ≡ plains t
   pub below : k < maxEntries
+  pub eight : length (t .table .entries) ≡ maxEntries
+  pub two : (j : ℕ) → j < length (t .table .entries) → length (entryAt (t .table .entries) j .plain) ≡ 2
   pub used : isFree (entryAt (t .table .entries) k) ≡ false

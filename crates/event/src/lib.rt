@@ -15,7 +15,9 @@ ghost use Rattle.memory.specs.Head.{house};
 ghost use Rattle.target.specs.Limits.{blockSize, maxPlain, maxProcesses, stopped};
 ghost use Rattle.rules.specs.Outcome.{world};
 ghost use Rattle.rules.specs.Record.{saved};
-ghost use Rattle.step_effect.specs.Ready.{ReadyAll, effectOutcome};
+ghost use Rattle.step_effect.specs.Effect.{effectOf, effectOutcome};
+ghost use Rattle.step_effect.specs.Ready.{ReadyAll};
+ghost use Rattle.target.specs.View.{viewOf};
 ghost use Rattle.rules.specs.Event.{trap as trapRule, schedule as scheduleRule, state as stateRule};
 ghost use Rattle.step_effect.specs.declared.Change.the-variants as change;
 
@@ -32,20 +34,28 @@ fn save(regs: &mut [u8], i: usize, block: &[u8])
 // Saves a block, and makes its process Stopped with no stop wanted.
 fn stop(regs: &mut [u8], i: usize, block: &[u8], answer: Answer) -> Effect
     requires { ⌜ (blockSize * i + blockSize ≤ length (now regs)) × (length (now block) ≡ blockSize) ⌝ }
-    ensures { λ r. ⌜ (r
-        ≡ record { number = 0; answer = answer; change = change.State i stopped 0; plain = replicate maxPlain 0 })
+    ensures { λ r. ⌜ (r ≡ effectOf 0 answer (change.State i stopped 0) (replicate maxPlain 0) (replicate 10 0))
         × (now (regs .exit) ≡ saved (now (regs .entry)) i (now (block .entry))) ⌝ }
 {
     save(regs, i, block);
-    Effect::changing(answer, Change::State(i, Process::STOPPED, 0))
+    Effect::answering(answer, Change::State(i, Process::STOPPED, 0), [0; 10])
 }
 
 // A process ran into a trap, with these registers.
-pub fn trap(t: Target, s: Scan, mem: &[u8], regs: &mut [u8], pid: u32, block: &[u8]) -> Effect
-    requires { ⌜ ReadyAll house t s (now mem) (now regs) ⌝ }
+pub fn trap(
+    t: Target,
+    s: Scan,
+    places: &[u32; Table::WORDS],
+    mem: &[u8],
+    regs: &mut [u8],
+    pid: u32,
+    block: &[u8],
+) -> Effect
+    requires { ⌜ ReadyAll house (viewOf t (now places)) s (now mem) (now regs) ⌝ }
     requires { ⌜ length (now block) ≡ blockSize ⌝ }
-    ensures { λ r. ⌜ effectOutcome t r (now (mem .entry)) (now (regs .exit)) []
-        ≡ trapRule house (world t (now (mem .entry)) (now (regs .entry))) pid (now (block .entry)) ⌝ }
+    ensures { λ r. ⌜ effectOutcome t r (now (places .entry)) (now (mem .entry)) (now (regs .exit)) []
+        ≡ trapRule house (world (viewOf t (now (places .entry))) (now (mem .entry)) (now (regs .entry))) pid
+        (now (block .entry)) ⌝ }
 {
     let found = target_fit::find(t, pid);
     let Lookup::At(i, p) = found else {
@@ -60,11 +70,13 @@ pub fn trap(t: Target, s: Scan, mem: &[u8], regs: &mut [u8], pid: u32, block: &[
         return Effect::keeping(common::NO_SITE, Answer::Nothing);
     }
     let table = t.table;
-    let e = table.entries[k];
-    let elements = e.elements;
+    let entries = table.entries;
+    let e = entries[k];
+    let from = pool::start_of(entries, k);
+    let count = e.count as usize;
     let sites = s.sites;
     let plain = s.plain;
-    if condition::evaluate(mem, t.base, &sites, &plain, pid, elements, e.count) {
+    if condition::evaluate(mem, t.base, &sites, &plain, pid, places, from, count) {
         return stop(regs, i, block, Answer::Stop(e.id));
     }
     Effect::keeping(common::ACCEPTED, Answer::Pass(e.plain[0], e.plain[1]))
@@ -74,8 +86,8 @@ pub fn trap(t: Target, s: Scan, mem: &[u8], regs: &mut [u8], pid: u32, block: &[
 pub fn schedule(t: Target, regs: &mut [u8], pid: u32, block: &[u8]) -> Effect
     requires { ⌜ (t .count ≤ maxProcesses) × (length (now regs) ≡ blockSize * t .count)
         × (length (now block) ≡ blockSize) ⌝ }
-    ensures { λ r. ⌜ ((mem : List ℕ) → effectOutcome t r mem (now (regs .exit)) []
-        ≡ scheduleRule (world t mem (now (regs .entry))) pid (now (block .entry))) ⌝ }
+    ensures { λ r. ⌜ ((words mem : List ℕ) → effectOutcome t r words mem (now (regs .exit)) []
+        ≡ scheduleRule (world (viewOf t words) mem (now (regs .entry))) pid (now (block .entry))) ⌝ }
 {
     let found = target_fit::find(t, pid);
     let Lookup::At(i, p) = found else {
@@ -90,7 +102,8 @@ pub fn schedule(t: Target, regs: &mut [u8], pid: u32, block: &[u8]) -> Effect
 // The kernel gives a process another state.
 pub fn state(t: Target, pid: u32, value: u8) -> Effect
     requires { ⌜ t .count ≤ maxProcesses ⌝ }
-    ensures { λ r. ⌜ ((mem regs : List ℕ) → effectOutcome t r mem regs [] ≡ stateRule (world t mem regs) pid value) ⌝ }
+    ensures { λ r. ⌜ ((words mem regs : List ℕ) → effectOutcome t r words mem regs []
+        ≡ stateRule (world (viewOf t words) mem regs) pid value) ⌝ }
 {
     let found = target_fit::find(t, pid);
     let Lookup::At(i, p) = found else {
@@ -102,5 +115,5 @@ pub fn state(t: Target, pid: u32, value: u8) -> Effect
     if value == Process::STOPPED {
         return Effect::keeping(common::STOPPED_PROCESS, Answer::Nothing);
     }
-    Effect::changing(Answer::Nothing, Change::State(i, value, p.wanted))
+    Effect::answering(Answer::Nothing, Change::State(i, value, p.wanted), [0; 10])
 }

@@ -1,7 +1,9 @@
-// The requests of Tcondbreak, over a fit record and its table as arrays.
+// The requests of Tcondbreak, over a fit record, its table as arrays, and its pool.
 use condition::Room;
+use rules::Answer;
 use step_effect::Change;
-use step_effect::Served;
+use step_effect::Effect;
+use target::Draft;
 use target::Element;
 use target::Entry;
 use target::Table;
@@ -16,37 +18,43 @@ ghost use lib.ListN.{replicate};
 ghost use Rattle.memory.specs.Head.{house};
 ghost use Rattle.target.specs.Limits.{maxPlain};
 ghost use Rattle.target.specs.declared.Target.{Target};
+ghost use Rattle.target.specs.View.{elementsOf, draftSize, viewOf, viewTable};
 ghost use Rattle.rules.specs.Outcome.{world, replied};
-ghost use Rattle.step_effect.specs.Change.{applied};
-ghost use Rattle.step_effect.specs.Ready.{Ready, servedOutcome};
+ghost use Rattle.step_effect.specs.Effect.{effectOf, requestOutcome};
+ghost use Rattle.step_effect.specs.Ready.{Ready};
 ghost use Rattle.rules.specs.Breakpoint.{planted};
 ghost use Rattle.rules.specs.Condition.{failed, siteFree, beginCondition, addElement, setBreakpoint};
 ghost use Rattle.rules.specs.Condition.{deleteBreakpoint, condbreak as condbreakOf};
+ghost use Rattle.rules.specs.declared.Answer.the-variants as answer;
 ghost use Rattle.breakpoint.specs.Breaks.{Findable};
 ghost use Rattle.target_fit.specs.Arrays.{idsOf};
+ghost use Rattle.wire.specs.Message.{bytesOf};
 ghost use Rattle.wire.specs.declared.Message.the-variants as message;
-ghost use Rattle.request_condbreak.specs.Plantable.{Plantable};
+ghost use Rattle.request_condbreak.specs.Needs.{Joinable, Plantable};
 
 // A change of the record, and Rcondbreak.
-fn done(change: Change) -> Served
-    ensures { λ r. ⌜ ((t : Target) (mem regs : List ℕ) → servedOutcome t r mem regs
-        ≡ replied message.Rcondbreak (world (applied t change (replicate maxPlain 0)) mem regs)) ⌝ }
+fn done(change: Change) -> Effect
+    ensures { λ r. ⌜ r ≡ effectOf 0 answer.Nothing change (replicate maxPlain 0) (bytesOf message.Rcondbreak) ⌝ }
 {
-    Served::with(change, wire::bytes_of(Message::Rcondbreak))
+    Effect::answering(Answer::Nothing, change, wire::bytes_of(Message::Rcondbreak))
 }
 
 // Rerr, with the condition in hand dropped.
-pub fn fail(reason: Reason) -> Served
-    ensures { λ r. ⌜ ((t : Target) (mem regs : List ℕ) → servedOutcome t r mem regs ≡ failed reason (world t mem regs))
-        ⌝ }
+pub fn fail(reason: Reason) -> Effect
+    ensures { λ r. ⌜ ((t : Target) (words mem regs : List ℕ) → requestOutcome t r words mem regs
+        ≡ failed reason (world (viewOf t words) mem regs)) ⌝ }
 {
-    Served::with(Change::Drop, wire::bytes_of(Message::Rerr { reason }))
+    Effect::answering(
+        Answer::Nothing,
+        Change::Hand(0, 0, 0),
+        wire::bytes_of(Message::Rerr { reason }),
+    )
 }
 
 // `n`: begins a condition.
-fn begin(t: Target, s: Scan, val: u32) -> Served
-    requires { ⌜ s .ids ≡ idsOf (t .table .entries) ⌝ }
-    ensures { λ r. ⌜ ((mem regs : List ℕ) → servedOutcome t r mem regs ≡ beginCondition (world t mem regs) val) ⌝ }
+fn begin(s: Scan, val: u32) -> Effect
+    ensures { λ r. ⌜ ((t : Target) (words mem regs : List ℕ) → s .ids ≡ idsOf (viewOf t words .table .entries)
+        → requestOutcome t r words mem regs ≡ beginCondition (world (viewOf t words) mem regs) val) ⌝ }
 {
     if Entry::LAST_ID < val {
         return fail(Reason::Inval);
@@ -59,33 +67,39 @@ fn begin(t: Target, s: Scan, val: u32) -> Served
         return fail(Reason::Count);
     }
     let id = val as u8;
-    done(Change::Begin(id))
+    done(Change::Hand(1, id, 0))
 }
 
-// An element joins the condition in hand.
-fn add(t: Target, letter: u8, value: u32) -> Served
-    ensures { λ r. ⌜ ((mem regs : List ℕ) → servedOutcome t r mem regs
-        ≡ addElement (world t mem regs) (record { letter = letter; value = value })) ⌝ }
+// An element joins the condition in hand, at the first place that is not held.
+fn add(u: Table, s: Scan, places: &mut [u32; Table::WORDS], letter: u8, value: u32) -> Effect
+    requires { ⌜ Joinable (viewTable u (elementsOf (now places))) s ⌝ }
+    ensures { λ r. ⌜ ((t : Target) (mem regs : List ℕ) → t .table ≡ u
+        → requestOutcome t r (now (places .exit)) mem regs
+        ≡ addElement (world (viewOf t (now (places .entry))) mem regs) (record { letter = letter; value = value })) ⌝ }
 {
-    let table = t.table;
-    let d = table.draft;
+    let d = u.draft;
     if d.active == 0 {
         return fail(Reason::Inval);
     }
-    let added = condition::add(d, Element { letter, value });
-    let room = added.room;
+    let code = letter as u32;
+    let room = condition::room_for(s.depth, d.count as usize, s.held, code, value);
     match room {
-        Room::Fits => done(Change::Add(letter, value)),
+        Room::Fits => {
+            let entries = u.entries;
+            pool::join(places, entries, d.count, Element { letter: code, value });
+            done(Change::Hand(d.active, d.id, d.count + 1))
+        }
         Room::Full => fail(Reason::Count),
         Room::Short => fail(Reason::Inval),
     }
 }
 
-// Makes a breakpoint of the condition in hand, at a site of the window.
-fn plant<'a>(t: Target, s: Scan, mem: &'a mut [u8], site: u32) -> Served
-    requires { ⌜ Plantable t s (now mem) site ⌝ }
-    ensures { λ r. ⌜ ((regs : List ℕ) → servedOutcome t r (now (mem .exit)) regs
-        ≡ replied message.Rcondbreak (planted house (world t (now (mem .entry)) regs) site)) ⌝ }
+// Makes a breakpoint of the condition in hand, at a site of the window: it takes the free entry of the lowest index.
+fn plant(t: Target, s: Scan, places: &mut [u32; Table::WORDS], mem: &mut [u8], site: u32) -> Effect
+    requires { ⌜ Plantable (viewOf t (now places)) s (now mem) site ⌝ }
+    ensures { λ r. ⌜ ((regs : List ℕ) → requestOutcome t r (now (places .exit)) (now (mem .exit)) regs
+        ≡ replied message.Rcondbreak
+        (planted house (world (viewOf t (now (places .entry))) (now (mem .entry)) regs) site)) ⌝ }
 {
     let sites = s.sites;
     let plain = s.plain;
@@ -93,13 +107,18 @@ fn plant<'a>(t: Target, s: Scan, mem: &'a mut [u8], site: u32) -> Served
     let b0 = memory::plain_at(mem, &sites, &plain, at);
     let b1 = memory::plain_at(mem, &sites, &plain, at + 1);
     memory::lay(mem, at, memory::TRAP_FIRST, memory::TRAP_SECOND);
-    done(Change::Plant(site, b0, b1))
+    let table = t.table;
+    let entries = table.entries;
+    let d = table.draft;
+    let k = table.first_free();
+    pool::plant(places, entries, d.count, k);
+    done(Change::Plant(k, site, b0, b1))
 }
 
 // A site is even, both its bytes are in the window, and no breakpoint is there.
 fn site_free(t: Target, s: Scan, val: u32) -> bool
-    requires { ⌜ Findable t s ⌝ }
-    ensures { λ r. ⌜ ((mem regs : List ℕ) → r ≡ siteFree (world t mem regs) val) ⌝ }
+    ensures { λ r. ⌜ ((words mem regs : List ℕ) → Findable (viewOf t words) s
+        → r ≡ siteFree (world (viewOf t words) mem regs) val) ⌝ }
 {
     if !memory_place::is_site(t.base, t.size as usize, val) {
         return false;
@@ -108,10 +127,10 @@ fn site_free(t: Target, s: Scan, val: u32) -> bool
 }
 
 // `b`: sets the condition in hand as a breakpoint.
-fn set(t: Target, s: Scan, mem: &mut [u8], val: u32) -> Served
-    requires { ⌜ Ready house t s (now mem) ⌝ }
-    ensures { λ r. ⌜ ((regs : List ℕ) → servedOutcome t r (now (mem .exit)) regs
-        ≡ setBreakpoint house (world t (now (mem .entry)) regs) val) ⌝ }
+fn set(t: Target, s: Scan, places: &mut [u32; Table::WORDS], mem: &mut [u8], val: u32) -> Effect
+    requires { ⌜ Ready house (viewOf t (now places)) s (now mem) ⌝ }
+    ensures { λ r. ⌜ ((regs : List ℕ) → requestOutcome t r (now (places .exit)) (now (mem .exit)) regs
+        ≡ setBreakpoint house (world (viewOf t (now (places .entry))) (now (mem .entry)) regs) val) ⌝ }
 {
     let table = t.table;
     let d = table.draft;
@@ -121,44 +140,67 @@ fn set(t: Target, s: Scan, mem: &mut [u8], val: u32) -> Served
     if !site_free(t, s, val) {
         return fail(Reason::Inval);
     }
-    let elements = d.elements;
-    if condition::depth_of(elements, d.count) != 1 {
+    if s.depth != 1 {
         return fail(Reason::Inval);
     }
-    plant(t, s, mem, val)
+    plant(t, s, places, mem, val)
+}
+
+// How many places the condition in hand has.
+fn in_hand(d: Draft) -> u8
+    ensures { λ r. ⌜ r ≡ draftSize d ⌝ }
+{
+    if d.active == 0 {
+        return 0;
+    }
+    d.count
 }
 
 // `d`: removes the breakpoint with an id. The condition in hand stays.
-fn delete(t: Target, s: Scan, mem: &mut [u8], val: u32) -> Served
-    requires { ⌜ Ready house t s (now mem) ⌝ }
-    ensures { λ r. ⌜ ((regs : List ℕ) → servedOutcome t r (now (mem .exit)) regs
-        ≡ deleteBreakpoint (world t (now (mem .entry)) regs) val) ⌝ }
+fn delete(t: Target, s: Scan, places: &mut [u32; Table::WORDS], mem: &mut [u8], val: u32) -> Effect
+    requires { ⌜ Ready house (viewOf t (now places)) s (now mem) ⌝ }
+    ensures { λ r. ⌜ ((regs : List ℕ) → requestOutcome t r (now (places .exit)) (now (mem .exit)) regs
+        ≡ deleteBreakpoint (world (viewOf t (now (places .entry))) (now (mem .entry)) regs) val) ⌝ }
 {
     let unknown = wire::bytes_of(Message::Rerr {
         reason: Reason::Inval,
     });
     if Entry::LAST_ID < val {
-        return Served::with(Change::Same, unknown);
+        return Effect::answering(Answer::Nothing, Change::Same, unknown);
     }
     let ids = s.ids;
     let k = target_scan::entry_of(&ids, val);
     if k < Table::ENTRIES {
-        breakpoint::put_back(t, s, mem, k);
+        breakpoint::put_back(s, mem, k);
+        let table = t.table;
+        let entries = table.entries;
+        let draft = table.draft;
+        pool::remove(places, entries, in_hand(draft), k);
         return done(Change::Remove(k));
     }
-    Served::with(Change::Same, unknown)
+    Effect::answering(Answer::Nothing, Change::Same, unknown)
 }
 
 // Tcondbreak, by its letter.
-pub fn condbreak(t: Target, s: Scan, mem: &mut [u8], val: u32, op: u8) -> Served
-    requires { ⌜ Ready house t s (now mem) ⌝ }
-    ensures { λ r. ⌜ ((regs : List ℕ) → servedOutcome t r (now (mem .exit)) regs
-        ≡ condbreakOf house (world t (now (mem .entry)) regs) val op) ⌝ }
+pub fn condbreak(
+    t: Target,
+    s: Scan,
+    places: &mut [u32; Table::WORDS],
+    mem: &mut [u8],
+    val: u32,
+    op: u8,
+) -> Effect
+    requires { ⌜ Ready house (viewOf t (now places)) s (now mem) ⌝ }
+    ensures { λ r. ⌜ ((regs : List ℕ) → requestOutcome t r (now (places .exit)) (now (mem .exit)) regs
+        ≡ condbreakOf house (world (viewOf t (now (places .entry))) (now (mem .entry)) regs) val op) ⌝ }
 {
     match op {
-        b'n' => begin(t, s, val),
-        b'b' => set(t, s, mem, val),
-        b'd' => delete(t, s, mem, val),
-        _ => add(t, op, val),
+        b'n' => begin(s, val),
+        b'b' => set(t, s, places, mem, val),
+        b'd' => delete(t, s, places, mem, val),
+        _ => {
+            let table = t.table;
+            add(table, s, places, op, val)
+        }
     }
 }

@@ -2,7 +2,7 @@
 use memory::Place;
 use rules::Answer;
 use step_effect::Change;
-use step_effect::Served;
+use step_effect::Effect;
 use target::Process;
 use target::Target;
 use target_fit::Lookup;
@@ -24,7 +24,9 @@ ghost use Rattle.wire.specs.Message.{bytesOf};
 ghost use Rattle.wire.specs.declared.Message.the-variants as message;
 ghost use Rattle.rules.specs.declared.Answer.the-variants.{Nothing};
 ghost use Rattle.rules.specs.Outcome.{world, outcome};
-ghost use Rattle.step_effect.specs.Ready.{ReadyAll, servedOutcome};
+ghost use Rattle.step_effect.specs.Effect.{requestOutcome};
+ghost use Rattle.step_effect.specs.Ready.{Lent, Arrays};
+ghost use Rattle.target.specs.View.{viewOf};
 ghost use Rattle.rules.specs.Request.{data9Of, putTo, mget as mgetOf, mput as mputOf};
 ghost use Rattle.request_memory.specs.Access.{Blocks, blockOf, blockPart, blockReply};
 
@@ -106,9 +108,10 @@ fn block_reply(block: Block, part: &[u8]) -> [u8; 10]
 
 // Tmget: the stretch that the address names is a part of the block or of the window, read as it is or under traps.
 pub fn mget<'a>(t: Target, s: Scan, mem: &'a [u8], regs: &'a [u8], addr: u32, n: u8) -> [u8; 10]
-    requires { ⌜ ReadyAll house t s (now mem) (now regs) ⌝ }
-    ensures { λ r. ⌜ outcome 0 Nothing (world t (now (mem .entry)) (now (regs .entry))) r
-        ≡ mgetOf (world t (now (mem .entry)) (now (regs .entry))) addr n ⌝ }
+    requires { ⌜ Lent t (now mem) (now regs) ⌝ }
+    ensures { λ r. ⌜ ((words : List ℕ) → Arrays (viewOf t words) s
+        → outcome 0 Nothing (world (viewOf t words) (now (mem .entry)) (now (regs .entry))) r
+        ≡ mgetOf (world (viewOf t words) (now (mem .entry)) (now (regs .entry))) addr n) ⌝ }
 {
     if n == 0 {
         return rmget([0; 9]);
@@ -130,8 +133,8 @@ pub fn mget<'a>(t: Target, s: Scan, mem: &'a [u8], regs: &'a [u8], addr: u32, n:
 // A write below 136, of the current process's block; register zero is not written.
 fn put_registers(t: Target, regs: &mut [u8], addr: u32, bytes: &[u8]) -> [u8; 10]
     requires { ⌜ Blocks t (now regs) × (addr + length (now bytes) ≤ blockSize) ⌝ }
-    ensures { λ r. ⌜ ((mem : List ℕ) → outcome 0 Nothing (world t mem (now (regs .exit))) r
-        ≡ putTo place.Registers (world t mem (now (regs .entry))) addr (now (bytes .entry))) ⌝ }
+    ensures { λ r. ⌜ ((words mem : List ℕ) → outcome 0 Nothing (world (viewOf t words) mem (now (regs .exit))) r
+        ≡ putTo place.Registers (world (viewOf t words) mem (now (regs .entry))) addr (now (bytes .entry))) ⌝ }
 {
     if addr <= 3 {
         return rerr(Reason::Inval);
@@ -156,22 +159,23 @@ pub fn mput(
     addr: u32,
     n: u8,
     d: Data4,
-) -> Served
-    requires { ⌜ ReadyAll house t s (now mem) (now regs) ⌝ }
+) -> Effect
+    requires { ⌜ Lent t (now mem) (now regs) ⌝ }
     requires { ⌜ n ≤ 4 ⌝ }
-    ensures { λ r. ⌜ servedOutcome t r (now (mem .exit)) (now (regs .exit))
-        ≡ mputOf (world t (now (mem .entry)) (now (regs .entry))) addr n d ⌝ }
+    ensures { λ r. ⌜ ((words : List ℕ) → Arrays (viewOf t words) s
+        → requestOutcome t r words (now (mem .exit)) (now (regs .exit))
+        ≡ mputOf (world (viewOf t words) (now (mem .entry)) (now (regs .entry))) addr n d) ⌝ }
 {
     let rmput = wire::bytes_of(Message::Rmput);
     if n == 0 {
-        return Served::with(Change::Same, rmput);
+        return Effect::answering(Answer::Nothing, Change::Same, rmput);
     }
     let bytes = [d.b0, d.b1, d.b2, d.b3];
     let count = n as usize;
     let place = memory_place::place_of(t.base, t.size, addr, n);
     match place {
         Place::Registers => {
-            Served::with(Change::Same, put_registers(t, regs, addr, &bytes[..count]))
+            Effect::answering(Answer::Nothing, Change::Same, put_registers(t, regs, addr, &bytes[..count]))
         }
         Place::Window => {
             let sites = s.sites;
@@ -180,15 +184,16 @@ pub fn mput(
             memory::write(mem, &sites, &mut plain, at, &bytes[..count]);
             let old = s.plain;
             if common::equal(&old, &plain) {
-                return Served::with(Change::Same, rmput);
+                return Effect::answering(Answer::Nothing, Change::Same, rmput);
             }
-            Served {
-                answer: Answer::Nothing,
-                change: Change::Plain,
-                plain: plain,
-                bytes: rmput,
-            }
+            Effect::of(
+                common::ACCEPTED,
+                Answer::Nothing,
+                Change::Plain,
+                plain,
+                rmput,
+            )
         }
-        Place::Nowhere => Served::with(Change::Same, rerr(Reason::Inval)),
+        Place::Nowhere => Effect::answering(Answer::Nothing, Change::Same, rerr(Reason::Inval)),
     }
 }

@@ -1,6 +1,8 @@
 // A request of ten bytes over a fit record: served if it is a message, refused by its bytes if not.
+use rules::Answer;
 use step_effect::Change;
-use step_effect::Served;
+use step_effect::Effect;
+use target::Table;
 use target::Target;
 use target_fit::Scan;
 use wire::Message;
@@ -14,19 +16,32 @@ ghost use Rattle.memory.specs.Head.{house};
 ghost use Rattle.target.specs.declared.Target.{Target};
 ghost use Rattle.wire.specs.Message.{isMessage};
 ghost use Rattle.rules.specs.Outcome.{world};
-ghost use Rattle.step_effect.specs.Ready.{ReadyAll, servedOutcome};
+ghost use Rattle.step_effect.specs.Effect.{requestOutcome};
+ghost use Rattle.step_effect.specs.Ready.{ReadyAll};
+ghost use Rattle.target.specs.View.{viewOf};
 ghost use Rattle.rules.specs.Request.{drops, refusedBy, serve as serveOf};
 
 // A request that is a message.
-pub fn serve(t: Target, s: Scan, mem: &mut [u8], regs: &mut [u8], m: Message) -> Served
-    requires { ⌜ ReadyAll house t s (now mem) (now regs) ⌝ }
+pub fn serve(
+    t: Target,
+    s: Scan,
+    places: &mut [u32; Table::WORDS],
+    mem: &mut [u8],
+    regs: &mut [u8],
+    m: Message,
+) -> Effect
+    requires { ⌜ ReadyAll house (viewOf t (now places)) s (now mem) (now regs) ⌝ }
     requires { ⌜ isMessage m ≡ true ⌝ }
-    ensures { λ r. ⌜ servedOutcome t r (now (mem .exit)) (now (regs .exit))
-        ≡ serveOf house (world t (now (mem .entry)) (now (regs .entry))) m ⌝ }
+    ensures { λ r. ⌜ requestOutcome t r (now (places .exit)) (now (mem .exit)) (now (regs .exit))
+        ≡ serveOf house (world (viewOf t (now (places .entry))) (now (mem .entry)) (now (regs .entry))) m ⌝ }
 {
     match m {
         Message::Tmget { addr, n } => {
-            Served::with(Change::Same, request_memory::mget(t, s, mem, regs, addr, n))
+            Effect::answering(
+                Answer::Nothing,
+                Change::Same,
+                request_memory::mget(t, s, mem, regs, addr, n),
+            )
         }
         Message::Tmput { addr, n, data } => request_memory::mput(t, s, mem, regs, addr, n, data),
         Message::Tproc { pid } => request_process::proc(t, pid),
@@ -34,8 +49,11 @@ pub fn serve(t: Target, s: Scan, mem: &mut [u8], regs: &mut [u8], m: Message) ->
         Message::Trnote { pid } => request_process::rnote(t, pid),
         Message::Tstop { pid } => request_process::stop(t, pid),
         Message::Tstart { pid } => request_process::start(t, s, regs, pid),
-        Message::Tcondbreak { val, op } => request_condbreak::condbreak(t, s, mem, val, op),
-        _ => Served::with(
+        Message::Tcondbreak { val, op } => {
+            request_condbreak::condbreak(t, s, places, mem, val, op)
+        }
+        _ => Effect::answering(
+            Answer::Nothing,
             Change::Same,
             wire::bytes_of(Message::Rerr {
                 reason: Reason::Inval,
@@ -59,13 +77,13 @@ fn drops_draft(s: &[u8]) -> bool
 }
 
 // A request that its ten bytes refuse.
-pub fn refuse(s: &[u8], reason: Reason) -> Served
+pub fn refuse(s: &[u8], reason: Reason) -> Effect
     requires { ⌜ length (now s) ≡ 10 ⌝ }
-    ensures { λ r. ⌜ ((t : Target) (mem regs : List ℕ) → servedOutcome t r mem regs
-        ≡ refusedBy (world t mem regs) (now (s .entry)) reason) ⌝ }
+    ensures { λ r. ⌜ ((t : Target) (words mem regs : List ℕ) → requestOutcome t r words mem regs
+        ≡ refusedBy (world (viewOf t words) mem regs) (now (s .entry)) reason) ⌝ }
 {
     if drops_draft(s) {
         return request_condbreak::fail(reason);
     }
-    Served::with(Change::Same, wire::bytes_of(Message::Rerr { reason }))
+    Effect::answering(Answer::Nothing, Change::Same, wire::bytes_of(Message::Rerr { reason }))
 }

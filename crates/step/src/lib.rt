@@ -5,8 +5,8 @@ use request_parse::Parsed;
 use rules::Answer;
 use step_effect::Change;
 use step_effect::Effect;
-use step_effect::Served;
 use target::Process;
+use target::Table;
 use target::Target;
 use target_fit::Scan;
 use wire::Message;
@@ -20,7 +20,12 @@ ghost use lib.ListN.{length};
 ghost use Rattle.memory.specs.Head.{house};
 ghost use Rattle.request_parse.specs.Request.{parseOf};
 ghost use Rattle.rules.specs.Outcome.{world};
-ghost use Rattle.step_effect.specs.Ready.{Ready, ReadyAll, effectOutcome};
+ghost use Rattle.common.specs.Numbers.{accepted};
+ghost use Rattle.step_effect.specs.Effect.{effectOutcome};
+ghost use Rattle.step_effect.specs.Ready.{ReadyAll, Arrays};
+ghost use Rattle.step_effect.specs.declared.Change.the-variants as change;
+ghost use Rattle.target.specs.View.{viewOf};
+ghost use Rattle.target.specs.declared.Target.{Target};
 ghost use Rattle.rules.specs.Request.{requestBy};
 ghost use Rattle.rules.specs.Event.{restart as restartRule};
 ghost use Rattle.rules.specs.declared.Answer.the-variants as answer;
@@ -48,59 +53,53 @@ fn lent_right(kind: StepKind, input: usize, reply: usize) -> bool
     }
 }
 
-// An accepted request: its answer and its change of the record, and its ten bytes in the reply.
-fn accepted(done: Served, reply: &mut [u8]) -> Effect
+// What an accepted step gives, its ten bytes in the reply.
+fn replied(e: Effect, reply: &mut [u8]) -> Effect
     requires { ⌜ length (now reply) ≡ 10 ⌝ }
-    ensures { λ r. ⌜ (r ≡ record { number = 0; answer = done .answer; change = done .change; plain = done .plain })
-        × (now (reply .exit) ≡ done .bytes) ⌝ }
+    ensures { λ r. ⌜ (r ≡ e) × (now (reply .exit) ≡ e .reply) ⌝ }
 {
-    let answer = done.answer;
-    let change = done.change;
-    let plain = done.plain;
-    let bytes = done.bytes;
+    let bytes = e.reply;
     common::copy(reply, &bytes);
-    Effect {
-        number: common::ACCEPTED,
-        answer,
-        change,
-        plain: plain,
-    }
+    e
 }
 
 // A request of ten bytes, answered in ten.
 fn request(
     t: Target,
     s: Scan,
+    places: &mut [u32; Table::WORDS],
     mem: &mut [u8],
     regs: &mut [u8],
     bytes: &[u8],
     reply: &mut [u8],
 ) -> Effect
-    requires { ⌜ ReadyAll house t s (now mem) (now regs) ⌝ }
+    requires { ⌜ ReadyAll house (viewOf t (now places)) s (now mem) (now regs) ⌝ }
     requires { ⌜ (length (now bytes) ≡ 10) × (length (now reply) ≡ 10) ⌝ }
-    ensures { λ r. ⌜ effectOutcome t r (now (mem .exit)) (now (regs .exit)) (now (reply .exit))
-        ≡ requestBy house (parseOf (now (bytes .entry))) (world t (now (mem .entry)) (now (regs .entry)))
+    ensures { λ r. ⌜ effectOutcome t r (now (places .exit)) (now (mem .exit)) (now (regs .exit)) (now (reply .exit))
+        ≡ requestBy house (parseOf (now (bytes .entry)))
+        (world (viewOf t (now (places .entry))) (now (mem .entry)) (now (regs .entry)))
         (now (bytes .entry)) (now (reply .entry)) ⌝ }
 {
     let asked = request_parse::parse(bytes);
     match asked {
         Parsed::Request(m) => {
-            let done = request_serve::serve(t, s, mem, regs, m);
-            accepted(done, reply)
+            let e = request_serve::serve(t, s, places, mem, regs, m);
+            replied(e, reply)
         }
         Parsed::Refused(reason) => {
-            let done = request_serve::refuse(bytes, reason);
-            accepted(done, reply)
+            let e = request_serve::refuse(bytes, reason);
+            replied(e, reply)
         }
         Parsed::NotTen => Effect::keeping(common::WRONG_SIZE, Answer::Nothing),
     }
 }
 
 // A restart: every trap's plain bytes go back.
-fn restart(t: Target, s: Scan, mem: &mut [u8], reply: &mut [u8]) -> Effect
-    requires { ⌜ Ready house t s (now mem) × (length (now reply) ≡ 10) ⌝ }
-    ensures { λ r. ⌜ ((regs : List ℕ) → effectOutcome t r (now (mem .exit)) regs (now (reply .exit))
-        ≡ restartRule (world t (now (mem .entry)) regs)) ⌝ }
+fn restart(s: Scan, mem: &mut [u8], reply: &mut [u8]) -> Effect
+    requires { ⌜ length (now reply) ≡ 10 ⌝ }
+    ensures { λ r. ⌜ ((t : Target) (words regs : List ℕ) → Arrays (viewOf t words) s
+        → effectOutcome t r words (now (mem .exit)) regs (now (reply .exit))
+        ≡ restartRule (world (viewOf t words) (now (mem .entry)) regs)) ⌝ }
 {
     let sites = s.sites;
     let plain = s.plain;
@@ -108,13 +107,16 @@ fn restart(t: Target, s: Scan, mem: &mut [u8], reply: &mut [u8]) -> Effect
     let bytes = wire::bytes_of(Message::Rerr {
         reason: Reason::Reset,
     });
-    common::copy(reply, &bytes);
-    Effect::changing(Answer::Nothing, Change::Restart)
+    replied(
+        Effect::answering(Answer::Nothing, Change::Restart, bytes),
+        reply,
+    )
 }
 
 // A step by its kind.
 pub fn step(
     t: Target,
+    places: &mut [u32; Table::WORDS],
     kind: StepKind,
     mem: &mut [u8],
     regs: &mut [u8],
@@ -123,9 +125,11 @@ pub fn step(
     input: &[u8],
     reply: &mut [u8],
 ) -> Effect
-    ensures { λ r. ⌜ effectOutcome t r (now (mem .exit)) (now (regs .exit)) (now (reply .exit))
-        ≡ stepBy kind (world t (now (mem .entry)) (now (regs .entry))) pid value (now (input .entry))
-        (now (reply .entry)) ⌝ }
+    ensures { λ r. ⌜ effectOutcome t r (now (places .exit)) (now (mem .exit)) (now (regs .exit)) (now (reply .exit))
+        ≡ stepBy kind (world (viewOf t (now (places .entry))) (now (mem .entry)) (now (regs .entry))) pid value
+        (now (input .entry)) (now (reply .entry)) ⌝ }
+    ensures { λ r. ⌜ ((r .number ≡ accepted → ⊥)
+        → (r .change ≡ change.Same) × (now (places .exit) ≡ now (places .entry))) ⌝ }
 {
     if !target_fit::sizes_right(t.size, t.count, mem.len(), regs.len()) {
         return Effect::keeping(common::WRONG_SIZE, Answer::Nothing);
@@ -133,15 +137,15 @@ pub fn step(
     if !lent_right(kind, input.len(), reply.len()) {
         return Effect::keeping(common::WRONG_SIZE, Answer::Nothing);
     }
-    let s = target_scan::check(t, mem);
+    let s = target_scan::check(t, places, mem);
     if !s.fit {
         return Effect::keeping(common::NOT_FIT, Answer::Nothing);
     }
     match kind {
-        StepKind::Request => request(t, s, mem, regs, input, reply),
-        StepKind::Trap => event::trap(t, s, mem, regs, pid, input),
+        StepKind::Request => request(t, s, places, mem, regs, input, reply),
+        StepKind::Trap => event::trap(t, s, places, mem, regs, pid, input),
         StepKind::Schedule => event::schedule(t, regs, pid, input),
         StepKind::State => event::state(t, pid, value),
-        StepKind::Restart => restart(t, s, mem, reply),
+        StepKind::Restart => restart(s, mem, reply),
     }
 }

@@ -1,48 +1,110 @@
--- What a step changes in the record.
+-- What a step changes in the record of the code: the record after it, and which parts of the record it is about.
 use Prim.Native.Nat.{ℕ}
-use mathlib.Core.Bool.{cond}
-use mathlib.Core.List.{List, [], _∷_}
-use lib.Dec.{ltb}
-use lib.ListN.{set}
-use Rattle.condition.specs.Add.{withElement}
-use Rattle.target.specs.Limits.{maxElements}
-use Rattle.target.specs.Free.{firstFree}
-use Rattle.target.specs.Fresh.{freshEntry, closedDraft}
+use mathlib.Core.Bool.{true, false}
+use mathlib.Core.List.{List, [], _∷_, _++_, map}
+use lib.ListN.{getD, take, drop, set, replicate}
+use Rattle.target.specs.Fresh.{freeEntry, noDraft, newTable}
 use Rattle.target.specs.declared.Draft.{Draft}
-use Rattle.target.specs.declared.Element.{Element}
+use Rattle.target.specs.declared.Entry.{Entry}
+use Rattle.target.specs.declared.Process.{Process}
+use Rattle.target.specs.declared.Table.{Table}
 use Rattle.target.specs.declared.Target.{Target}
+use Rattle.target_fit.specs.Fit.{processAt}
+use Rattle.rules.specs.Record.{withState}
+use Rattle.rules.specs.Event.{restarted}
 use Rattle.step_effect.specs.declared.Change.{Change}
-use Rattle.step_effect.specs.declared.Change.the-variants.{Same, Plain, Current, State, Begin, Add, Drop, Plant}
+use Rattle.step_effect.specs.declared.Change.the-variants.{Same, Plain, Current, State, Hand, Plant}
 use Rattle.step_effect.specs.declared.Change.the-variants.{Remove, Restart}
-use Rattle.rules.specs.Record.{withTable, withCurrent, withDraft, withEntries, setState}
-use Rattle.rules.specs.Breakpoint.{entryWith}
-use Rattle.rules.specs.Condition.{begun}
-use Rattle.rules.specs.Request.{withPlains}
-use Rattle.rules.specs.Event.{afterRestart}
+use Rattle.step_effect.specs.declared.Touched.{Touched}
 
--- the condition in hand with one element more, as far as there is room
-unfoldable pub grown : Draft → Element → Draft
-grown d e = cond (ltb (d .count) maxElements) (withElement d e) d
+-- ---- the record with one part changed
 
--- the record without the breakpoint at an index
-abbrev pub withoutEntry : Target → ℕ → Target
-withoutEntry t k = withEntries t (set (t .table .entries) k freshEntry)
+-- what stands beside the table
+abbrev pub withBeside : Target → List Process → ℕ → ℕ → Target
+withBeside t ps selected current = record {
+  base = t .base;
+  size = t .size;
+  count = t .count;
+  processes = ps;
+  selected = selected;
+  current = current;
+  table = t .table;
+}
 
--- the record after a change; plain is the slots' plain bytes
-unfoldable pub applied : Target → Change → List ℕ → Target
-applied t Same plain = t
-applied t Plain plain = withEntries t (withPlains (t .table .entries) plain)
-applied t (Current pid) plain = withCurrent t 1 pid
-applied t (State i state wanted) plain = setState t i state wanted
-applied t (Begin id) plain = withDraft t (begun id)
-applied t (Add letter value) plain = withDraft t (grown (t .table .draft) (record { letter = letter; value = value }))
-applied t Drop plain = withDraft t closedDraft
-applied t (Plant site b0 b1) plain =
-    let es = t .table .entries in
-    withTable t
-    (record {
-      entries = set es (firstFree es) (entryWith (t .table .draft) site (b0 ∷ b1 ∷ []));
-      draft = closedDraft;
-    })
-applied t (Remove k) plain = withoutEntry t k
-applied t Restart plain = afterRestart t
+abbrev pub withTable : Target → List Entry → Draft → Target
+withTable t es d = record {
+  base = t .base;
+  size = t .size;
+  count = t .count;
+  processes = t .processes;
+  selected = t .selected;
+  current = t .current;
+  table = record { entries = es; draft = d };
+}
+
+-- entries with the first two of their plain bytes taken from the slots' bytes
+unfoldable pub storePlains : List Entry → List ℕ → List Entry
+storePlains [] bytes = []
+storePlains (e ∷ es) bytes =
+    record {
+      used = e .used;
+      id = e .id;
+      count = e .count;
+      plain = getD bytes 0 0 ∷ getD bytes 1 0 ∷ drop 2 (e .plain);
+      site = e .site;
+    }
+    ∷ storePlains es (drop 2 bytes)
+
+-- the entry of a new breakpoint
+abbrev pub madeOf : Draft → ℕ → ℕ → ℕ → Entry
+madeOf d site b0 b1 = record { used = 1; id = d .id; count = d .count; plain = b0 ∷ b1 ∷ 0 ∷ 0 ∷ []; site = site }
+
+-- ---- the record after a change; plain is the slots' plain bytes
+
+unfoldable pub stored : Target → Change → List ℕ → Target
+stored t Same plain = t
+stored t Plain plain = withTable t (storePlains (t .table .entries) plain) (t .table .draft)
+stored t (Current pid) plain = withBeside t (t .processes) 1 pid
+stored t (State i state wanted) plain =
+    withBeside t (set (t .processes) i (withState (processAt (t .processes) i) state wanted)) (t .selected) (t .current)
+stored t (Hand active id count) plain =
+    withTable t (t .table .entries) (record { active = active; id = id; count = count })
+stored t (Plant k site b0 b1) plain =
+    withTable t (set (t .table .entries) k (madeOf (t .table .draft) site b0 b1)) noDraft
+stored t (Remove k) plain = withTable t (set (t .table .entries) k freeEntry) (t .table .draft)
+stored t Restart plain =
+    withTable (withBeside t (map restarted (take (t .count) (t .processes)) ++ drop (t .count) (t .processes)) 0 0)
+    (newTable .entries) noDraft
+
+-- ---- each part after a change, in a record that has just that part
+
+abbrev pub holding : ℕ → List Process → ℕ → ℕ → Table → Target
+holding count ps selected current u =
+    record { base = 0; size = 0; count = count; processes = ps; selected = selected; current = current; table = u }
+
+unfoldable pub processesAfter : ℕ → List Process → Change → List Process
+processesAfter count ps c = stored (holding count ps 0 0 newTable) c [] .processes
+
+unfoldable pub selectedAfter : ℕ → Change → ℕ
+selectedAfter selected c = stored (holding 0 [] selected 0 newTable) c [] .selected
+
+unfoldable pub currentAfter : ℕ → Change → ℕ
+currentAfter current c = stored (holding 0 [] 0 current newTable) c [] .current
+
+unfoldable pub entriesAfter : Table → Change → List ℕ → List Entry
+entriesAfter u c plain = stored (holding 0 [] 0 0 u) c plain .table .entries
+
+unfoldable pub draftAfter : Draft → Change → Draft
+draftAfter d c = stored (holding 0 [] 0 0 (record { entries = []; draft = d })) c [] .table .draft
+
+-- ---- which parts a change is about
+
+unfoldable pub touchedOf : Change → Touched
+touchedOf Same = record { beside = false; entries = false; draft = false }
+touchedOf Plain = record { beside = false; entries = true; draft = false }
+touchedOf (Current pid) = record { beside = true; entries = false; draft = false }
+touchedOf (State i state wanted) = record { beside = true; entries = false; draft = false }
+touchedOf (Hand active id count) = record { beside = false; entries = false; draft = true }
+touchedOf (Plant k site b0 b1) = record { beside = false; entries = true; draft = true }
+touchedOf (Remove k) = record { beside = false; entries = true; draft = false }
+touchedOf Restart = record { beside = true; entries = true; draft = true }

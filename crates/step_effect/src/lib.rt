@@ -1,11 +1,13 @@
-// What a step gives: its number, its answer, its reply, and what it changes in the record.
+// What a step gives: its number, its answer, its reply, and what it changes in the record. This one struct goes from the
+// rule to the function that stores it.
 use rules::Answer;
 use target::Table;
 use target::Target;
 ghost use mathlib.Core.Path.{_≡_};
 ghost use lib.ListN.{replicate};
 ghost use Rattle.target.specs.Limits.{maxPlain};
-ghost use Rattle.rules.specs.declared.Answer.the-variants as answer;
+ghost use Rattle.step_effect.specs.Change.{touchedOf};
+ghost use Rattle.step_effect.specs.Effect.{effectOf};
 ghost use Rattle.step_effect.specs.declared.Change.the-variants as change;
 
 // The number, the answer and the record that a step gives back.
@@ -15,7 +17,7 @@ pub struct Done {
     pub target: Target,
 }
 
-// What a step changes in the record; `target_change::apply` makes it.
+// What a step changes in the record. The pool of elements, which is lent, is changed by the step itself.
 pub enum Change {
     // nothing
     Same,
@@ -25,86 +27,99 @@ pub enum Change {
     Current(u32),
     // the state and the mark of the process at an index
     State(usize, u8, u8),
-    // a new condition in hand, with an id
-    Begin(u8),
-    // an element, by letter and value, joins the condition in hand
-    Add(u8, u32),
-    // the condition in hand is dropped
-    Drop,
-    // the condition in hand is a breakpoint at a site with these plain bytes
-    Plant(u32, u8, u8),
+    // the condition in hand: whether there is one, its id and its count
+    Hand(u8, u8, u8),
+    // the condition in hand is the breakpoint of the entry at an index, at a site with these plain bytes
+    Plant(usize, u32, u8, u8),
     // the entry at an index is free
     Remove(usize),
     // a restart: no breakpoint, nothing in hand, none current, no mark, nobody Stopped
     Restart,
 }
 
-// The number and the answer of a step, with what it changes in the record and, for a change of the entries' plain
-// bytes, those bytes.
+// The number and the answer of a step, with what it changes in the record; for a change of the entries' plain bytes,
+// those bytes; and the reply, where it has one. The last three say which parts of the record change: what stands beside
+// the table, its entries, the condition in hand.
 pub struct Effect {
     pub number: u8,
     pub answer: Answer,
     pub change: Change,
     pub plain: [u8; Table::PLAIN],
+    pub reply: [u8; 10],
+    pub beside: bool,
+    pub entries: bool,
+    pub draft: bool,
 }
 
-// What an accepted request gives: its answer, what it changes in the record, the entries' plain bytes, and the reply's
-// ten bytes.
-pub struct Served {
-    pub answer: Answer,
-    pub change: Change,
-    pub plain: [u8; Table::PLAIN],
-    pub bytes: [u8; 10],
+// The parts of the record that a change is about: what stands beside the table, its entries, the condition in hand.
+pub struct Touched {
+    pub beside: bool,
+    pub entries: bool,
+    pub draft: bool,
 }
 
-impl Served {
-    // A change other than of plain bytes, with an answer.
-    pub fn answering(answer: Answer, change: Change, bytes: [u8; 10]) -> Served
-        ensures { λ r. ⌜ r
-            ≡ record { answer = answer; change = change; plain = replicate maxPlain 0; bytes = bytes } ⌝ }
+impl Touched {
+    fn of(beside: bool, entries: bool, draft: bool) -> Touched
+        ensures { λ r. ⌜ r ≡ record { beside = beside; entries = entries; draft = draft } ⌝ }
     {
-        Served {
-            answer,
-            change,
-            plain: [0; Table::PLAIN],
-            bytes: bytes,
+        Touched {
+            beside,
+            entries,
+            draft,
         }
     }
+}
 
-    // A change other than of plain bytes.
-    pub fn with(change: Change, bytes: [u8; 10]) -> Served
-        ensures { λ r. ⌜ r
-            ≡ record { answer = answer.Nothing; change = change; plain = replicate maxPlain 0; bytes = bytes } ⌝ }
-    {
-        Served::answering(Answer::Nothing, change, bytes)
+// The flags stand in the order of the fields.
+fn touched_by(c: Change) -> Touched
+    ensures { λ r. ⌜ r ≡ touchedOf c ⌝ }
+{
+    match c {
+        Change::Same => Touched::of(false, false, false),
+        Change::Plain => Touched::of(false, true, false),
+        Change::Current(_) => Touched::of(true, false, false),
+        Change::State(_, _, _) => Touched::of(true, false, false),
+        Change::Hand(_, _, _) => Touched::of(false, false, true),
+        Change::Plant(_, _, _, _) => Touched::of(false, true, true),
+        Change::Remove(_) => Touched::of(false, true, false),
+        Change::Restart => Touched::of(true, true, true),
     }
 }
 
 impl Effect {
-    // A step that leaves the record as it was.
-    pub fn keeping(number: u8, answer: Answer) -> Effect
-        ensures { λ r. ⌜ r
-            ≡ record { number = number; answer = answer; change = change.Same; plain = replicate maxPlain 0 } ⌝ }
+    pub fn of(
+        number: u8,
+        answer: Answer,
+        change: Change,
+        plain: [u8; Table::PLAIN],
+        reply: [u8; 10],
+    ) -> Effect
+        ensures { λ r. ⌜ r ≡ effectOf number answer change plain reply ⌝ }
     {
-        let none = [0; Table::PLAIN];
+        let parts = touched_by(change);
         Effect {
             number,
             answer,
-            change: Change::Same,
-            plain: none,
+            change,
+            plain: plain,
+            reply: reply,
+            beside: parts.beside,
+            entries: parts.entries,
+            draft: parts.draft,
         }
     }
 
-    // An accepted step that changes the record, other than plain bytes.
-    pub fn changing(answer: Answer, change: Change) -> Effect
-        ensures { λ r. ⌜ r ≡ record { number = 0; answer = answer; change = change; plain = replicate maxPlain 0 } ⌝ }
+    // An accepted request with an answer and a reply; it changes no plain bytes.
+    pub fn answering(answer: Answer, change: Change, reply: [u8; 10]) -> Effect
+        ensures { λ r. ⌜ r ≡ effectOf 0 answer change (replicate maxPlain 0) reply ⌝ }
     {
-        let zeros = [0; Table::PLAIN];
-        Effect {
-            number: common::ACCEPTED,
-            answer,
-            change: change,
-            plain: zeros,
-        }
+        Effect::of(common::ACCEPTED, answer, change, [0; Table::PLAIN], reply)
+    }
+
+    // A step that has no reply and leaves the record as it was.
+    pub fn keeping(number: u8, answer: Answer) -> Effect
+        ensures { λ r. ⌜ r ≡ effectOf number answer change.Same (replicate maxPlain 0) (replicate 10 0) ⌝ }
+    {
+        Effect::of(number, answer, Change::Same, [0; Table::PLAIN], [0; 10])
     }
 }

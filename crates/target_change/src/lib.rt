@@ -1,9 +1,8 @@
-// What a step changes in the record, made: part by part, so that a caller who has the record in its own memory writes
-// just the parts that change, and of a whole record. What becomes of the entries is in
-// `target_entries`.
+// The record after a step, part by part, so that a caller who has it in its own memory writes just the parts that change;
+// and of a whole record.
 use step_effect::Change;
+use step_effect::Effect;
 use target::Draft;
-use target::Element;
 use target::Entry;
 use target::Process;
 use target::Table;
@@ -12,10 +11,9 @@ ghost use mathlib.Core.Path.{_≡_};
 ghost use lib.ListN.{set};
 ghost use Rattle.target_fit.specs.Fit.{processAt};
 ghost use Rattle.rules.specs.Record.{withState};
-ghost use Rattle.rules.specs.Condition.{begun as begunOf};
-ghost use Rattle.step_effect.specs.Change.{grown as grownOf, applied};
+ghost use Rattle.step_effect.specs.Change.{storePlains, madeOf, stored, processesAfter, selectedAfter, currentAfter};
+ghost use Rattle.step_effect.specs.Change.{entriesAfter, draftAfter};
 ghost use Rattle.step_effect.specs.declared.Change.the-variants as change;
-ghost use Rattle.target_change.specs.Parts.{processesAfter, selectedAfter, currentAfter, draftAfter};
 
 // The state and the mark of one process set.
 fn set_process(
@@ -58,10 +56,11 @@ fn restart_processes(count: u32, ps: [Process; Target::PROCESSES]) -> [Process; 
 pub fn processes_after(
     count: u32,
     ps: [Process; Target::PROCESSES],
-    c: Change,
+    e: Effect,
 ) -> [Process; Target::PROCESSES]
-    ensures { λ r. ⌜ r ≡ processesAfter count ps c ⌝ }
+    ensures { λ r. ⌜ r ≡ processesAfter count ps (e .change) ⌝ }
 {
+    let c = e.change;
     match c {
         Change::State(i, state, wanted) => set_process(ps, i, state, wanted),
         Change::Restart => restart_processes(count, ps),
@@ -70,9 +69,10 @@ pub fn processes_after(
 }
 
 // Whether a process is current, and which.
-pub fn selected_after(selected: u8, c: Change) -> u8
-    ensures { λ r. ⌜ r ≡ selectedAfter selected c ⌝ }
+pub fn selected_after(selected: u8, e: Effect) -> u8
+    ensures { λ r. ⌜ r ≡ selectedAfter selected (e .change) ⌝ }
 {
+    let c = e.change;
     match c {
         Change::Current(_) => 1,
         Change::Restart => 0,
@@ -80,9 +80,10 @@ pub fn selected_after(selected: u8, c: Change) -> u8
     }
 }
 
-pub fn current_after(current: u32, c: Change) -> u32
-    ensures { λ r. ⌜ r ≡ currentAfter current c ⌝ }
+pub fn current_after(current: u32, e: Effect) -> u32
+    ensures { λ r. ⌜ r ≡ currentAfter current (e .change) ⌝ }
 {
+    let c = e.change;
     match c {
         Change::Current(pid) => pid,
         Change::Restart => 0,
@@ -90,57 +91,97 @@ pub fn current_after(current: u32, c: Change) -> u32
     }
 }
 
-// A condition in hand with an id and no element.
-fn begun(id: u8) -> Draft
-    ensures { λ r. ⌜ r ≡ begunOf id ⌝ }
+// The entry of a new breakpoint: the condition in hand, at a site with these plain bytes.
+fn made(d: Draft, site: u32, b0: u8, b1: u8) -> Entry
+    ensures { λ r. ⌜ r ≡ madeOf d site b0 b1 ⌝ }
 {
-    let mut d = Draft::closed();
-    d.active = 1;
-    d.id = id;
-    d
+    Entry {
+        used: 1,
+        id: d.id,
+        count: d.count,
+        plain: [b0, b1, 0, 0],
+        site: site,
+    }
 }
 
-// One element more, as far as there is room.
-fn grown(d: Draft, e: Element) -> Draft
-    ensures { λ r. ⌜ r ≡ grownOf d e ⌝ }
+// The entries with one stored.
+fn with_entry(es: [Entry; Table::ENTRIES], k: usize, e: Entry) -> [Entry; Table::ENTRIES]
+    ensures { λ r. ⌜ r ≡ set es k e ⌝ }
 {
-    let mut f = d;
-    let k = d.count as usize;
-    if k < Entry::ELEMENTS {
-        f.elements[k] = e;
-        f.count = d.count + 1;
+    let mut fs = es;
+    if k < Table::ENTRIES {
+        fs[k] = e;
     }
-    f
+    fs
+}
+
+// The entries with their plain bytes taken from the slots' bytes.
+fn with_plains(es: [Entry; Table::ENTRIES], plain: [u8; Table::PLAIN]) -> [Entry; Table::ENTRIES]
+    ensures { λ r. ⌜ r ≡ storePlains es plain ⌝ }
+{
+    let mut fs = es;
+    let mut k: usize = 0;
+    while k < Table::ENTRIES {
+        let mut e = fs[k];
+        e.plain[0] = plain[2 * k];
+        e.plain[1] = plain[2 * k + 1];
+        fs[k] = e;
+        k += 1;
+    }
+    fs
+}
+
+// The entries.
+pub fn entries_after(u: Table, e: Effect) -> [Entry; Table::ENTRIES]
+    ensures { λ r. ⌜ r ≡ entriesAfter u (e .change) (e .plain) ⌝ }
+{
+    let es = u.entries;
+    let draft = u.draft;
+    let plain = e.plain;
+    let c = e.change;
+    match c {
+        Change::Plain => with_plains(es, plain),
+        Change::Plant(k, site, b0, b1) => with_entry(es, k, made(draft, site, b0, b1)),
+        Change::Remove(k) => with_entry(es, k, Entry::free()),
+        Change::Restart => {
+            let none = Entry::free();
+            [none; Table::ENTRIES]
+        }
+        _ => es,
+    }
 }
 
 // The condition in hand.
-pub fn draft_after(d: Draft, c: Change) -> Draft
-    ensures { λ r. ⌜ r ≡ draftAfter d c ⌝ }
+pub fn draft_after(d: Draft, e: Effect) -> Draft
+    ensures { λ r. ⌜ r ≡ draftAfter d (e .change) ⌝ }
 {
+    let c = e.change;
     match c {
-        Change::Begin(id) => begun(id),
-        Change::Add(letter, value) => grown(d, Element { letter, value }),
-        Change::Drop => Draft::closed(),
-        Change::Plant(_, _, _) => Draft::closed(),
+        Change::Hand(active, id, count) => Draft {
+            active,
+            id,
+            count,
+        },
+        Change::Plant(_, _, _, _) => Draft::closed(),
         Change::Restart => Draft::closed(),
         _ => d,
     }
 }
 
-// The record after a change.
-pub fn apply(t: Target, c: Change, plain: [u8; Table::PLAIN]) -> Target
-    ensures { λ r. ⌜ r ≡ applied t c plain ⌝ }
+// The record after a step.
+pub fn apply(t: Target, e: Effect) -> Target
+    ensures { λ r. ⌜ r ≡ stored t (e .change) (e .plain) ⌝ }
 {
     let ps = t.processes;
     let table = t.table;
     let d = table.draft;
     let mut u = t;
-    let qs = processes_after(t.count, ps, c);
+    let qs = processes_after(t.count, ps, e);
     u.processes = qs;
-    u.selected = selected_after(t.selected, c);
-    u.current = current_after(t.current, c);
-    let entries = target_entries::entries_after(table, c, plain);
-    let draft = draft_after(d, c);
+    u.selected = selected_after(t.selected, e);
+    u.current = current_after(t.current, e);
+    let entries = entries_after(table, e);
+    let draft = draft_after(d, e);
     let after = Table {
         entries: entries,
         draft: draft,
