@@ -12,66 +12,76 @@ use lib.ListN.{length, getD, set, take, drop, drop-of-length-le}
 use lib.Seq.{set-set, set-out, set-getD, getD-set-same, take-all}
 use Rattle.common.specs.Keys.{among}
 use Rattle.common.proofs.Same.{true-or-false}
-use Rattle.target_entries.specs.Entries.{entriesAfter}
 use Rattle.target_fit.specs.Fit.{stopped, processAt}
-use Rattle.step_effect.specs.Change.{applied}
 use Rattle.rules.specs.Event.{restarted}
-use Rattle.rules.specs.Record.{ready, isStopped, withTable, withEntries, withDraft, withCurrent, withProcesses}
-use Rattle.rules.specs.Record.{withState, setState}
+use Rattle.rules.specs.Record.{ready, isStopped, withState}
+use Rattle.step_effect.specs.Change.{stored, processesAfter, selectedAfter, currentAfter, entriesAfter, draftAfter}
 use Rattle.step_effect.specs.declared.Change.{Change}
-use Rattle.step_effect.specs.declared.Change.the-variants.{Same, Plain, Current, State, Begin, Add, Drop, Plant, Remove}
-use Rattle.step_effect.specs.declared.Change.the-variants.{Restart}
+use Rattle.step_effect.specs.declared.Change.the-variants.{Same, Plain, Current, State, Hand, Plant, Remove, Restart}
 use Rattle.step_effect.proofs.Change.{the-type}
 use Rattle.target.specs.Fresh.{noProcess}
 use Rattle.target.specs.declared.Process.{Process}
 use Rattle.target.specs.declared.Target.{Target}
-use Rattle.target_change.specs.Parts.{holding, processesAfter, selectedAfter, currentAfter, draftAfter}
 
 -- ---- parts that a change leaves as they were; a tag is the variant's place
 
-pub keeps-processes : (t : Target) (c : Change) (plain : List ℕ)
-    → among (0 ∷ 1 ∷ 2 ∷ 4 ∷ 5 ∷ 6 ∷ 7 ∷ 8 ∷ []) (tagOf the-type c) ≡ true
-    → applied t c plain .processes ≡ t .processes
-unfolding among applied withTable withEntries withDraft withCurrent
+pub keeps-processes : (t : Target) (c : Change) (plain : List ℕ) → among (0 ∷ 1 ∷ 2 ∷ 4 ∷ 5 ∷ 6 ∷ []) (tagOf the-type c) ≡ true
+    → stored t c plain .processes ≡ t .processes
+unfolding among stored
 keeps-processes t Same plain e = refl
 keeps-processes t Plain plain e = refl
 keeps-processes t (Current pid) plain e = refl
 keeps-processes t (State i state wanted) plain e = true-or-false e
-keeps-processes t (Begin id) plain e = refl
-keeps-processes t (Add letter value) plain e = refl
-keeps-processes t Drop plain e = refl
-keeps-processes t (Plant site b0 b1) plain e = refl
+keeps-processes t (Hand active id count) plain e = refl
+keeps-processes t (Plant k site b0 b1) plain e = refl
 keeps-processes t (Remove k) plain e = refl
 keeps-processes t Restart plain e = true-or-false e
 
--- whether a process is current, and which
-pub keeps-current : (t : Target) (c : Change) (plain : List ℕ)
-    → among (0 ∷ 1 ∷ 3 ∷ 4 ∷ 5 ∷ 6 ∷ 7 ∷ 8 ∷ []) (tagOf the-type c) ≡ true
-    → (applied t c plain .selected ≡ t .selected) × (applied t c plain .current ≡ t .current)
-unfolding among applied withTable withEntries withDraft withProcesses setState
-keeps-current t Same plain e = (refl, refl)
-keeps-current t Plain plain e = (refl, refl)
+pub keeps-selected : (t : Target) (c : Change) (plain : List ℕ) → among (0 ∷ 1 ∷ 3 ∷ 4 ∷ 5 ∷ 6 ∷ []) (tagOf the-type c) ≡ true
+    → stored t c plain .selected ≡ t .selected
+unfolding among stored
+keeps-selected t Same plain e = refl
+keeps-selected t Plain plain e = refl
+keeps-selected t (Current pid) plain e = true-or-false e
+keeps-selected t (State i state wanted) plain e = refl
+keeps-selected t (Hand active id count) plain e = refl
+keeps-selected t (Plant k site b0 b1) plain e = refl
+keeps-selected t (Remove k) plain e = refl
+keeps-selected t Restart plain e = true-or-false e
+
+pub keeps-current : (t : Target) (c : Change) (plain : List ℕ) → among (0 ∷ 1 ∷ 3 ∷ 4 ∷ 5 ∷ 6 ∷ []) (tagOf the-type c) ≡ true
+    → stored t c plain .current ≡ t .current
+unfolding among stored
+keeps-current t Same plain e = refl
+keeps-current t Plain plain e = refl
 keeps-current t (Current pid) plain e = true-or-false e
-keeps-current t (State i state wanted) plain e = (refl, refl)
-keeps-current t (Begin id) plain e = (refl, refl)
-keeps-current t (Add letter value) plain e = (refl, refl)
-keeps-current t Drop plain e = (refl, refl)
-keeps-current t (Plant site b0 b1) plain e = (refl, refl)
-keeps-current t (Remove k) plain e = (refl, refl)
+keeps-current t (State i state wanted) plain e = refl
+keeps-current t (Hand active id count) plain e = refl
+keeps-current t (Plant k site b0 b1) plain e = refl
+keeps-current t (Remove k) plain e = refl
 keeps-current t Restart plain e = true-or-false e
 
-pub keeps-draft : (t : Target) (c : Change) (plain : List ℕ) → among (0 ∷ 1 ∷ 2 ∷ 3 ∷ 8 ∷ []) (tagOf the-type c)
-    ≡ true
-    → applied t c plain .table .draft ≡ t .table .draft
-unfolding among applied withTable withEntries withCurrent withProcesses setState
+pub keeps-entries : (t : Target) (c : Change) (plain : List ℕ) → among (0 ∷ 2 ∷ 3 ∷ 4 ∷ []) (tagOf the-type c) ≡ true
+    → stored t c plain .table .entries ≡ t .table .entries
+unfolding among stored
+keeps-entries t Same plain e = refl
+keeps-entries t Plain plain e = true-or-false e
+keeps-entries t (Current pid) plain e = refl
+keeps-entries t (State i state wanted) plain e = refl
+keeps-entries t (Hand active id count) plain e = refl
+keeps-entries t (Plant k site b0 b1) plain e = true-or-false e
+keeps-entries t (Remove k) plain e = true-or-false e
+keeps-entries t Restart plain e = true-or-false e
+
+pub keeps-draft : (t : Target) (c : Change) (plain : List ℕ) → among (0 ∷ 1 ∷ 2 ∷ 3 ∷ 6 ∷ []) (tagOf the-type c) ≡ true
+    → stored t c plain .table .draft ≡ t .table .draft
+unfolding among stored
 keeps-draft t Same plain e = refl
 keeps-draft t Plain plain e = refl
 keeps-draft t (Current pid) plain e = refl
 keeps-draft t (State i state wanted) plain e = refl
-keeps-draft t (Begin id) plain e = true-or-false e
-keeps-draft t (Add letter value) plain e = true-or-false e
-keeps-draft t Drop plain e = true-or-false e
-keeps-draft t (Plant site b0 b1) plain e = true-or-false e
+keeps-draft t (Hand active id count) plain e = true-or-false e
+keeps-draft t (Plant k site b0 b1) plain e = true-or-false e
 keeps-draft t (Remove k) plain e = refl
 keeps-draft t Restart plain e = true-or-false e
 
@@ -87,17 +97,14 @@ pub of-parts : (t : Target) (c : Change) (plain : List ℕ)
       current = currentAfter (t .current) c;
       table = record { entries = entriesAfter (t .table) c plain; draft = draftAfter (t .table .draft) c };
     }
-    ≡ applied t c plain
-unfolding applied holding processesAfter selectedAfter currentAfter entriesAfter draftAfter withTable withEntries
-    withDraft withCurrent withProcesses setState
+    ≡ stored t c plain
+unfolding stored processesAfter selectedAfter currentAfter entriesAfter draftAfter
 of-parts t Same plain = refl
 of-parts t Plain plain = refl
 of-parts t (Current pid) plain = refl
 of-parts t (State i state wanted) plain = refl
-of-parts t (Begin id) plain = refl
-of-parts t (Add letter value) plain = refl
-of-parts t Drop plain = refl
-of-parts t (Plant site b0 b1) plain = refl
+of-parts t (Hand active id count) plain = refl
+of-parts t (Plant k site b0 b1) plain = refl
 of-parts t (Remove k) plain = refl
 of-parts t Restart plain = refl
 

@@ -2,9 +2,7 @@
 use mathlib.Core.Path.{sym}
 use borrow.Author.Needs.{needs}
 use Rattle.common.proofs.Keys.{among-yes}
-use Rattle.step_effect.specs.Change.{applied}
-use Rattle.rules.specs.Record.{withCurrent}
-use Rattle.target_change.specs.Parts.{holding, currentAfter}
+use Rattle.step_effect.specs.Change.{stored, currentAfter}
 use Rattle.target_change.proofs.Laws.{keeps-current}
 use Rattle.target_change.proofs.current_after.Statement.{statement}
 use Rattle.target_change.proofs.current_after.Tie as tie
@@ -16,16 +14,23 @@ enum-told : tie.Need-enum-told
 enum-told c = search needs
 
 returns : tie.Need-returns
-unfolding applied holding currentAfter withCurrent
+unfolding stored currentAfter
 returns c = rw (c .before .c .given .1)
 
 returns-2 : tie.Need-returns-2
-unfolding applied holding currentAfter
+unfolding stored currentAfter
 returns-2 c = rw (c .enum-told .given .1)
 
 returns-3 : tie.Need-returns-3
-unfolding holding currentAfter
-returns-3 c = sym (keeps-current _ _ _ (among-yes _ _ (c .match .keys3)) .1)
+unfolding currentAfter
+returns-3 c = sym (keeps-current _ _ _ (among-yes _ _ (c .match .keys3)))
 
 pub current-after-spec : {M : Type 1} → statement M
-current-after-spec = tie.close (tie.spec enum-known-c enum-told returns returns-2 returns-3)
+current-after-spec =
+    tie.close
+    (tie.spec
+    enum-known-c
+    enum-told
+    returns
+    returns-2
+    returns-3)

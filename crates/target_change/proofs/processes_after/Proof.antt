@@ -2,9 +2,7 @@
 use mathlib.Core.Path.{sym}
 use borrow.Author.Needs.{needs}
 use Rattle.common.proofs.Keys.{among-yes}
-use Rattle.step_effect.specs.Change.{applied}
-use Rattle.rules.specs.Record.{withProcesses, setState}
-use Rattle.target_change.specs.Parts.{holding, processesAfter}
+use Rattle.step_effect.specs.Change.{stored, processesAfter}
 use Rattle.target_change.proofs.Laws.{keeps-processes}
 use Rattle.target_change.proofs.processes_after.Statement.{statement}
 use Rattle.target_change.proofs.processes_after.Tie as tie
@@ -22,14 +20,14 @@ restart-processes-requires : tie.Need-restart-processes-requires
 restart-processes-requires c κs = search needs
 
 returns : tie.Need-returns
-unfolding applied holding processesAfter withProcesses setState
+unfolding stored processesAfter
 returns c = rw (c .before .before .c .given .1) (c .set-process .ensures)
 
 returns-2 : tie.Need-returns-2
 returns-2 c = rw (c .before .enum-told .given .1) (c .restart-processes .ensures)
 
 returns-3 : tie.Need-returns-3
-unfolding holding processesAfter
+unfolding processesAfter
 returns-3 c = sym (keeps-processes _ _ _ (among-yes _ _ (c .match .keys3)))
 
 pub processes-after-spec : {M : Type 1} → statement M

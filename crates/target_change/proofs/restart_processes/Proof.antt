@@ -5,10 +5,9 @@ use mathlib.Core.Path.{_≡_, refl, ap, _∙_}
 use Prim.Native.Nat.{_≤_, _-_}
 use native.Mathlib.Omega.{arith}
 use lib.ListN.{length}
-use Rattle.step_effect.specs.Change.{applied}
+use Rattle.step_effect.specs.Change.{stored, processesAfter}
 use Rattle.rules.specs.Event.{restarted}
 use Rattle.rules.specs.Record.{withState}
-use Rattle.target_change.specs.Parts.{holding, processesAfter}
 use Rattle.target_change.proofs.Laws.{front, front-all, made-ready, kept-state, restart-more}
 use Rattle.target_change.proofs.restart_processes.Statement.{statement}
 use Rattle.target_change.proofs.restart_processes.Tie as tie
@@ -61,12 +60,12 @@ loop-again c =
     )
 
 returns : tie.Need-returns Inv-loop μ-loop
-unfolding applied holding processesAfter
+unfolding stored processesAfter
 returns c = let o = c .before .loop in o .inv .3 ∙ front-all restarted (c .before .before .args .ps) (o .i)
     (c .before .before .args .count) (omega arith) (omega arith)
 
 returns-2 : tie.Need-returns-2 Inv-loop μ-loop
-unfolding applied holding processesAfter
+unfolding stored processesAfter
 returns-2 c = let o = c .before .before .loop in o .inv .3 ∙ ap (front restarted (c .before .before .before .args .ps))
     (c .if1 .taken)
 

@@ -1,11 +1,11 @@
--- `target_entries::with_entry` meets its contract: the entry is stored, and past the entries there is nothing to store
+-- `target_change::with_entry` meets its contract: the entry is stored, and past the entries there is nothing to store
 -- to. Assumes nothing.
 use mathlib.Core.Path.{sym}
 use native.Mathlib.Omega.{arith}
 use borrow.Author.Needs.{needs}
 use lib.Seq.{set-out}
-use Rattle.target_entries.proofs.with_entry.Statement.{statement}
-use Rattle.target_entries.proofs.with_entry.Tie as tie
+use Rattle.target_change.proofs.with_entry.Statement.{statement}
+use Rattle.target_change.proofs.with_entry.Tie as tie
 
 mul-fs : tie.Need-mul-fs
 mul-fs c = search needs
