@@ -12,9 +12,8 @@ use Rattle.common.proofs.Every.{every-fails, every-ext, every-done}
 use Rattle.common.proofs.Fill.{filled, fill-before}
 use Rattle.common.proofs.Same.{parts}
 use Rattle.memory.specs.Head.{Head}
-use Rattle.target.specs.declared.Entry.{Entry}
 use Rattle.target.specs.declared.Process.{Process}
-use Rattle.target.specs.declared.Target.{Target}
+use Rattle.target.specs.View.{Table, Target}
 use Rattle.target_fit.specs.Fit.{processAt, pidFit, processesFit, processOf, findOf, fitOf, scanOf}
 use Rattle.target_fit.specs.declared.Lookup.{Lookup}
 use Rattle.target_fit.specs.declared.Lookup.the-variants.{At, Unlisted}
@@ -85,36 +84,36 @@ unfoldable pub onFound : {A : Type 0} → (ℕ → Process → A) → A → Look
 onFound serve other (At i p) = serve i p
 onFound serve other Unlisted = other
 
-module _ (t : Target) (pid : ℕ) where
+module _ (ps : List Process) (n pid : ℕ) where
   -- it is what a rule does by whether the pid is listed
-  pub on-found : {A : Type 0} (serve : ℕ → Process → A) (other : A) (l f : Lookup) → l ≡ findOf t pid → l ≡ f
-      → onFound serve other f ≡ (let k = processOf (t .processes) (t .count) pid in
-      cond (ltb k (t .count)) (serve k (processAt (t .processes) k)) other)
+  pub on-found : {A : Type 0} (serve : ℕ → Process → A) (other : A) (l f : Lookup) → l ≡ findOf ps n pid → l ≡ f
+      → onFound serve other f ≡ (let k = processOf ps n pid in
+      cond (ltb k n) (serve k (processAt ps k)) other)
   unfolding findOf onFound
-  on-found serve other l f e g = rw (sym g ∙ e) (by (ltb (processOf (t .processes) (t .count) pid) (t .count)))
+  on-found serve other l f e g = rw (sym g ∙ e) (by (ltb (processOf ps n pid) n))
     where
       k : ℕ
-      k = processOf (t .processes) (t .count) pid
+      k = processOf ps n pid
 
-      by : (b : Bool) → onFound serve other (cond b (At k (processAt (t .processes) k)) Unlisted)
-          ≡ cond b (serve k (processAt (t .processes) k)) other
+      by : (b : Bool) → onFound serve other (cond b (At k (processAt ps k)) Unlisted)
+          ≡ cond b (serve k (processAt ps k)) other
       by true = refl
       by false = refl
 
   -- the process that is found is listed
-  pub found-listed : (l : Lookup) (i : ℕ) (p : Process) → l ≡ findOf t pid → l ≡ At i p
-      → (i ≡ processOf (t .processes) (t .count) pid) × (i < t .count) × (p ≡ processAt (t .processes) i)
+  pub found-listed : (l : Lookup) (i : ℕ) (p : Process) → l ≡ findOf ps n pid → l ≡ At i p
+      → (i ≡ processOf ps n pid) × (i < n) × (p ≡ processAt ps i)
   unfolding findOf
-  found-listed l i p e g = by (ltb k (t .count)) refl (sym g ∙ e)
+  found-listed l i p e g = by (ltb k n) refl (sym g ∙ e)
     where
       k : ℕ
-      k = processOf (t .processes) (t .count) pid
+      k = processOf ps n pid
 
-      by : (b : Bool) → ltb k (t .count) ≡ b → At i p ≡ cond b (At k (processAt (t .processes) k)) Unlisted
-          → (i ≡ k) × (i < t .count) × (p ≡ processAt (t .processes) i)
+      by : (b : Bool) → ltb k n ≡ b → At i p ≡ cond b (At k (processAt ps k)) Unlisted
+          → (i ≡ k) × (i < n) × (p ≡ processAt ps i)
       by true h q =
           let z : i ≡ k = cc in
-          (z, omega (arith, z, ltb-true k (t .count) h), cc)
+          (z, omega (arith, z, ltb-true k n h), cc)
       by false h q = (cc, omega (arith, none q), cc)
         where
           none : At i p ≡ Unlisted → _≡_ {A = ℕ} 0 1
@@ -122,15 +121,15 @@ module _ (t : Target) (pid : ℕ) where
 
 -- ---- what a scan gives, by its test
 
-module _ (test : Bool) (base : ℕ) (es : List Entry) (r : Scan) (s : r ≡ scanOf test base es) where
+module _ (test : Bool) (base : ℕ) (u : Table) (r : Scan) (s : r ≡ scanOf test base u) where
   pub scan-fit : r .fit ≡ test
   unfolding scanOf
   scan-fit = rw s (by test)
     where
-      by : (b : Bool) → scanOf b base es .fit ≡ b
+      by : (b : Bool) → scanOf b base u .fit ≡ b
       by true = refl
       by false = refl
 
   -- where it holds, the arrays are the table's
-  pub scan-is : test ≡ true → r ≡ scanOf true base es
-  scan-is h = s ∙ ap (λ (b : Bool). scanOf b base es) h
+  pub scan-is : test ≡ true → r ≡ scanOf true base u
+  scan-is h = s ∙ ap (λ (b : Bool). scanOf b base u) h

@@ -8,7 +8,7 @@ use native.Mathlib.Omega.{arith}
 use borrow.Author.Tests.{ne-eqb}
 use lib.Dec.{eqb}
 use lib.ListN.{length, getD, length-append, List·getD-append}
-use lib.Seq.{getD-append-add}
+use lib.Seq.{getD-append-add, length-take-le}
 use mir.Val.{Val}
 use denote.Laws.{Is}
 use Rattle.common.specs.First.{firstOf}
@@ -17,10 +17,12 @@ use Rattle.common.proofs.Cases.{on-test}
 use Rattle.common.proofs.First.{first-map}
 use Rattle.common.proofs.Tab.{tab-is, tab-map}
 use Rattle.target.specs.Free.{isFree, firstFree}
-use Rattle.target.specs.Fresh.{noEntry}
-use Rattle.target.specs.declared.Entry.{Entry}
+use Rattle.target.specs.Fresh.{noEntry, pastEntries}
+use Rattle.target.specs.View.{Entry, viewEntries}
+use Rattle.target.specs.declared.Element.{Element}
 use Rattle.target.specs.declared.Target.{Target}
 use Rattle.target.proofs.Shape.{EntryShape, entry-shape, table-entries, table-entry, target-table}
+use Rattle.target.proofs.View.{length-view, view-at}
 use Rattle.target.proofs.Target as target
 use Rattle.target_fit.specs.Arrays.{freeId, idOf, siteOf, idsOf, sitesOf, plainsOf}
 use Rattle.target_fit.specs.Fit.{entryAt}
@@ -96,21 +98,30 @@ pub first-free : (es : List Entry) → Small es → firstOf (eqb freeId) (idsOf 
 unfolding idsOf firstFree
 first-free es h = first-map (eqb freeId) idOf isFree es noEntry (λ k g. is-free (entryAt es k) (h k g))
 
--- ---- the table of a record of the code
+-- ---- the table of a record of the code, over any pool
 
 module _ (t : Target) (vs : List Val) where
-  pub eight-entries : Is target.the-row t vs → length (t .table .entries) ≡ 8
-  eight-entries h = let (_, u) = target-table t vs h in table-entries (t .table) _ u
+  pub eight-stored : Is target.the-row t vs → length (t .table .entries) ≡ 8
+  eight-stored h = let (_, u) = target-table t vs h in table-entries (t .table) _ u
 
-  -- each entry has its shape
-  pub shape-at : (k : ℕ) → Is target.the-row t vs → k < 8 → EntryShape (entryAt (t .table .entries) k)
+  -- each stored entry has its shape
+  pub shape-at : (k : ℕ) → Is target.the-row t vs → k < 8 → EntryShape (getD (t .table .entries) k pastEntries)
   shape-at k h l =
       let (_, u) = target-table t vs h in
       let (_, e) = table-entry (t .table) _ k u l in
-      entry-shape (entryAt (t .table .entries) k) _ e
+      entry-shape (getD (t .table .entries) k pastEntries) _ e
 
-  pub target-small : Is target.the-row t vs → Small (t .table .entries)
-  target-small h k l = shape-at k h (omega (arith, eight-entries h)) .id
+  module _ (pool : List Element) where
+    pub eight-entries : Is target.the-row t vs → length (viewEntries (t .table .entries) pool) ≡ 8
+    eight-entries h = length-view (t .table .entries) pool ∙ eight-stored h
 
-  pub two-each : Is target.the-row t vs → TwoEach (t .table .entries)
-  two-each h k l = shape-at k h (omega (arith, eight-entries h)) .plain
+    pub target-small : Is target.the-row t vs → Small (viewEntries (t .table .entries) pool)
+    target-small h k l =
+        let b : k < 8 = omega (arith, eight-entries h) in
+        rw (view-at (t .table .entries) pool k (omega (arith, eight-stored h))) (shape-at k h b .id)
+
+    pub two-each : Is target.the-row t vs → TwoEach (viewEntries (t .table .entries) pool)
+    two-each h k l =
+        let b : k < 8 = omega (arith, eight-entries h) in
+        rw (view-at (t .table .entries) pool k (omega (arith, eight-stored h)))
+        (length-take-le 2 (getD (t .table .entries) k pastEntries .plain) (omega (arith, shape-at k h b .plain)))
