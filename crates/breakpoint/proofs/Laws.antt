@@ -7,63 +7,70 @@ use native.Mathlib.Omega.{arith}
 use borrow.Author.Tests.{lt-ltb, le-ltb, eq-eqb, ne-eqb}
 use lib.Dec.{eqb}
 use lib.ListN.{length, getD}
+use lib.Seq.{getD-take}
 use mir.Val.{Val}
 use denote.Laws.{Is}
 use Rattle.common.proofs.Cases.{on-less, on-same}
 use Rattle.common.proofs.First.{first-map, first-within}
 use Rattle.common.proofs.Tab.{two-of}
-use Rattle.target_fit.proofs.Slots.{plain-byte, shape-at}
+use Rattle.target_fit.proofs.Slots.{plain-byte, shape-at, eight-entries, eight-stored, target-small}
+use Rattle.target_fit.proofs.Slots.{two-each as two-stored}
 use Rattle.target_fit.specs.Arrays.{siteOf, sitesOf}
 use Rattle.target_fit.specs.Fit.{entryAt}
 use Rattle.target_fit.specs.declared.Scan.{Scan}
 use Rattle.memory.specs.Head.{house}
 use Rattle.memory.specs.Overlay.{siteOver, slotOf}
-use Rattle.rules.specs.declared.Answer.the-variants.{Nothing}
+use Rattle.rules.specs.declared.Answer.the-variants.{Nothing, Pass}
 use Rattle.rules.specs.Breakpoint.{sites, isAt, breakpointAt, passOf, passAt}
 use Rattle.rules.proofs.Facts.{Shaped, Good}
-use Rattle.rules.proofs.FitFacts.{facts-of, two-each}
+use Rattle.rules.proofs.FitFacts.{facts-of}
 use Rattle.rules.proofs.Found.{at-used, at-site}
 use Rattle.step_effect.specs.Ready.{Ready}
 use Rattle.rules.proofs.Slots.{slot-used}
 use Rattle.target.specs.Free.{isFree}
-use Rattle.target.specs.Fresh.{noEntry}
-use Rattle.target.specs.declared.Entry.{Entry}
-use Rattle.target.specs.declared.Target.{Target}
-use Rattle.target.proofs.Shape.{draft-shape, table-entries, table-draft, target-shape, target-table}
+use Rattle.target.specs.Fresh.{noEntry, pastEntries}
+use Rattle.target.specs.View.{Entry, Target, elementsOf, viewEntries, viewOf}
+use Rattle.target.specs.declared.Target.{Target as StoredTarget}
+use Rattle.target.proofs.Shape.{draft-shape, table-draft, target-shape, target-table}
+use Rattle.target.proofs.View.{view-at}
 use Rattle.target.proofs.Target as target
 use Rattle.breakpoint.specs.Breaks.{Findable, Removable}
 
--- ---- a record of the code is shaped and, where it is fit, good
+-- ---- a record of the code is shaped and, where it is fit, good; with any pool
 
-pub shaped-of : (t : Target) (vs : List Val) → Is target.the-row t vs → Shaped t
-shaped-of t vs h =
-    let (_, u) = target-table t vs h in
-    let (_, d) = table-draft (t .table) _ u in
-    let draft = draft-shape (t .table .draft) _ d in
-    record {
-      entries = table-entries (t .table) _ u;
-      entry = λ k l. let s = shape-at t vs k h l in record { plain = s .plain; elements = s .elements; id = s .id };
-      draftElements = draft .elements;
-      draftId = draft .id;
-      processes = target-shape t vs h .processes;
-    }
+module _ (t : StoredTarget) (words : List ℕ) (vs : List Val) (h : Is target.the-row t vs) where
+  pub shaped-of : Shaped (viewOf t words)
+  shaped-of =
+      let (_, u) = target-table t vs h in
+      let (_, d) = table-draft (t .table) _ u in
+      let es = viewEntries (t .table .entries) (elementsOf words) in
+      let z : length es ≡ 8 = eight-entries t vs (elementsOf words) h in
+      record {
+        entries = z;
+        entry = λ k l.
+            let b : k < length es = omega arith in
+            record {
+              plain = two-stored t vs (elementsOf words) h k b;
+              id = target-small t vs (elementsOf words) h k b;
+            };
+        draftId = draft-shape (t .table .draft) _ d .id;
+        processes = target-shape t vs h .processes;
+      }
 
--- what a step starts from is a good record
-pub ready-good : (t : Target) (vs : List Val) (s : Scan) (mem : List ℕ) → Is target.the-row t vs
-    → Ready house t s mem → Good house t mem
-ready-good t vs s mem h r = record { shaped = shaped-of t vs h; fit = r .fit; sized = r .memory }
+  module _ (s : Scan) (mem : List ℕ) (r : Ready house (viewOf t words) s mem) where
+    -- what a step starts from is a good record
+    pub ready-good : Good house (viewOf t words) mem
+    ready-good = record { shaped = shaped-of; fit = r .fit; sized = r .memory }
 
--- its breakpoints can be found
-pub ready-findable : (t : Target) (vs : List Val) (s : Scan) (mem : List ℕ) → Is target.the-row t vs
-    → Ready house t s mem → Findable t s
-ready-findable t vs s mem h r =
-    let g = ready-good t vs s mem h r in
-    let f = facts-of t mem g in
-    record {
-      traps = r .sites;
-      even = omega (arith, f .baseFour);
-      placed = λ k l u. let e = f .used k (omega (arith, g .shaped .entries), u) in (e .even, e .low);
-    }
+    -- its breakpoints can be found
+    pub ready-findable : Findable (viewOf t words) s
+    ready-findable =
+        let f = facts-of (viewOf t words) mem ready-good in
+        record {
+          traps = r .sites;
+          even = omega (arith, f .baseFour);
+          placed = λ k l u. let e = f .used k (omega (arith, shaped-of .entries), u) in (e .even, e .low);
+        }
 
 -- ---- the breakpoint at an address is the slot that covers its offset
 
@@ -122,19 +129,32 @@ module _ (es : List Entry) (address k : ℕ) (z : length es ≡ 8) (e : k ≡ br
   unfolding passAt
   pass-one h = rw (← e, z, lt-ltb k 8 h)
 
+-- the two plain bytes of a stored entry, as Pass has them
+pub pass-stored : (t : StoredTarget) (words : List ℕ) (vs : List Val) (k : ℕ) → Is target.the-row t vs → k < 8
+    → let p = getD (t .table .entries) k pastEntries .plain in
+    Pass (getD p 0 0) (getD p 1 0) ≡ passOf (entryAt (viewOf t words .table .entries) k)
+unfolding passOf
+pass-stored t words vs k h l =
+    let p = getD (t .table .entries) k pastEntries .plain in
+    rw (
+      view-at (t .table .entries) (elementsOf words) k (omega (arith, eight-stored t vs h)),
+      getD-take 2 p 0 0 (omega arith),
+      getD-take 2 p 1 0 (omega arith),
+    )
+
 -- ---- the scan's slot of a used entry: its site, as an offset into the window, and its two plain bytes
 
-module _ (t : Target) (s : Scan) (k : ℕ) (h : Shaped t) (r : Removable t s k) where
+module _ (t : Target) (s : Scan) (k : ℕ) (r : Removable t s k) where
   within : k < length (t .table .entries)
-  within = omega (arith, h .entries, r .below)
+  within = omega (arith, r .eight, r .below)
 
   pub slot-site : getD (s .sites) k 0 ≡ entryAt (t .table .entries) k .site - t .base
   slot-site = rw (r .traps) (slot-used (t .base) (t .table .entries) k within (r .used))
 
   slot-byte : (i j : ℕ) → j < 2 → i ≡ k * 2 + j → getD (s .plain) i 0 ≡ getD (entryAt (t .table .entries) k .plain) j 0
-  slot-byte i j l e = rw (r .plain, e) (plain-byte (t .table .entries) (two-each t h) k j within l)
+  slot-byte i j l e = rw (r .plain, e) (plain-byte (t .table .entries) (r .two) k j within l)
 
   pub slot-plain : getD (s .plain) (2 * k) 0 ∷ getD (s .plain) (2 * k + 1) 0 ∷ [] ≡ entryAt (t .table .entries) k .plain
   slot-plain =
       rw (slot-byte (2 * k) 0 (omega arith) (omega arith), slot-byte (2 * k + 1) 1 (omega arith) (omega arith))
-      (sym (two-of (entryAt (t .table .entries) k .plain) 0 (two-each t h k within)))
+      (sym (two-of (entryAt (t .table .entries) k .plain) 0 (r .two k within)))

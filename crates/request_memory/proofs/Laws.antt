@@ -7,72 +7,71 @@ use Prim.Native.Nat.{ℕ, _+_, _-_, _*_, _<_, _≤_}
 use native.Mathlib.Omega.{arith}
 use borrow.Author.Tests.{eq-eqb, ne-eqb, le-leb, lt-leb, ltb-true}
 use lib.Dec.{eqb, ltb}
-use lib.ListN.{length, take, drop, replicate}
+use lib.ListN.{length, take, drop, replicate, length-map}
 use mir.Val.{Val}
 use denote.Laws.{Is}
 use Rattle.common.specs.Same.{sameList}
 use Rattle.common.proofs.Same.{and-both, same-eq}
 use Rattle.common.proofs.Tab.{length-tab}
-use Rattle.memory.specs.Head.{house}
 use Rattle.memory.proofs.Parts.{part-bytes}
 use Rattle.memory.specs.Place.{placeOf}
 use Rattle.memory.specs.declared.Place.{Place}
 use Rattle.memory.specs.declared.Place.the-variants.{Registers, Window}
 use Rattle.memory.specs.Write.{plainRead, overwritten, memAfter, plainAfter}
-use Rattle.target_fit.specs.Fit.{processAt, currentFit, findOf}
+use Rattle.target_fit.specs.Fit.{processAt, processOf, currentFit, findOf}
 use Rattle.target_fit.specs.declared.Lookup.{Lookup}
 use Rattle.target_fit.specs.declared.Lookup.the-variants.{At, Unlisted}
 use Rattle.target_fit.specs.declared.Scan.{Scan}
-use Rattle.target_fit.proofs.Laws.{fit-few}
-use Rattle.target_fit.proofs.Slots.{TwoEach, sixteen-plains, eight-entries, two-each}
+use Rattle.target_fit.proofs.Slots.{TwoEach}
 use Rattle.rules.specs.declared.Answer.the-variants.{Nothing}
-use Rattle.step_effect.specs.declared.Change.the-variants.{Plain}
 use Rattle.rules.specs.Breakpoint.{sites, plains}
-use Rattle.step_effect.specs.Change.{applied}
-use Rattle.rules.proofs.FitFacts.{tests-of}
 use Rattle.rules.specs.Outcome.{World, world, Outcome, outcome, repliedWith, replied, error}
-use Rattle.step_effect.specs.Ready.{Ready, ReadyAll}
+use Rattle.step_effect.specs.Effect.{effectOf, requestOutcome}
+use Rattle.step_effect.specs.Ready.{Blocks}
+use Rattle.step_effect.specs.declared.Change.the-variants.{Plain}
+use Rattle.step_effect.specs.declared.Effect.{Effect}
+use Rattle.step_effect.proofs.View.{stored-plains}
 use Rattle.rules.specs.Record.{withTable, withEntries, indexOf, isStopped, blockAt}
 use Rattle.rules.specs.Request.{onBlock, data9Of, gotFrom, mget, mput, withPlains, windowWritten, putTo}
 use Rattle.rules.proofs.Slots.{with-plains}
-use Rattle.target.specs.declared.Entry.{Entry}
-use Rattle.target.specs.declared.Target.{Target}
-use Rattle.target.proofs.Target as target
+use Rattle.target.specs.View.{Entry, Target, viewOf}
+use Rattle.target.specs.declared.Target.{Target as StoredTarget}
+use Rattle.target_fit.proofs.Scan as scan
 use Rattle.wire.specs.Message.{bytes4, bytesOf}
 use Rattle.wire.specs.declared.Data4.{Data4}
 use Rattle.wire.specs.declared.Message.the-variants.{Rerr, Rmget, Rmput}
 use Rattle.wire_text.specs.declared.Reason.{Reason}
 use Rattle.wire_text.specs.declared.Reason.the-variants.{Inval, Pid, Notstop}
-use Rattle.request_memory.specs.Access.{Blocks, blockOf, blockPart, blockReply}
+use Rattle.request_memory.specs.Access.{blockOf, blockPart, blockReply}
 use Rattle.request_memory.specs.declared.Block.{Block}
 use Rattle.request_memory.specs.declared.Block.the-variants as block
 use Rattle.request_memory.specs.declared.Block.the-variants.{Refused}
 
 -- ---- the current process's block
 
-module _ (t : Target) where
-  pub block-none : t .selected ≡ 0 → Refused Pid ≡ blockOf t
+module _ (t : StoredTarget) (words : List ℕ) where
+  pub block-none : t .selected ≡ 0 → Refused Pid ≡ blockOf (viewOf t words)
   unfolding blockOf
   block-none h = rw (eq-eqb (t .selected) 0 h)
 
   -- a current process is listed
   pub block-unlisted : (t .selected ≡ 0 → ⊥) → currentFit (t .selected) (t .current) (t .processes) (t .count) ≡ true
       → (l : Lookup)
-      → l ≡ findOf t (t .current) → l ≡ Unlisted → Refused Notstop ≡ blockOf t
+      → l ≡ findOf (t .processes) (t .count) (t .current) → l ≡ Unlisted → Refused Notstop ≡ blockOf (viewOf t words)
   unfolding currentFit findOf
   block-unlisted h f l e g =
-      let k = indexOf t (t .current) in
+      let k = processOf (t .processes) (t .count) (t .current) in
       let b = and-both (eqb (t .selected) 1) (ltb k (t .count)) (rw (ne-eqb (t .selected) 0 h) at f) in
       let u : Unlisted ≡ At k (processAt (t .processes) k) = sym g ∙ (rw (b .1) at e) in
       let z : _≡_ {A = ℕ} 0 1 = cc in
       absurd (omega arith)
 
-  module _ (h : t .selected ≡ 0 → ⊥) (i : ℕ) (q : i ≡ indexOf t (t .current)) where
-    pub block-stopped : processAt (t .processes) i .state ≡ 8 → block.At i ≡ blockOf t
+  module _ (h : t .selected ≡ 0 → ⊥) (i : ℕ) (q : i ≡ processOf (t .processes) (t .count) (t .current)) where
+    pub block-stopped : processAt (t .processes) i .state ≡ 8 → block.At i ≡ blockOf (viewOf t words)
     unfolding blockOf isStopped
     block-stopped e = rw (ne-eqb (t .selected) 0 h, ← q, eq-eqb (processAt (t .processes) i .state) 8 e)
 
-    pub block-running : (processAt (t .processes) i .state ≡ 8 → ⊥) → Refused Notstop ≡ blockOf t
+    pub block-running : (processAt (t .processes) i .state ≡ 8 → ⊥) → Refused Notstop ≡ blockOf (viewOf t words)
     unfolding blockOf isStopped
     block-running e = rw (ne-eqb (t .selected) 0 h, ← q, ne-eqb (processAt (t .processes) i .state) 8 e)
 
@@ -105,24 +104,14 @@ at-index false true i k e = (refl, cc)
 at-index false false i k e = (cc, cc)
 
 -- the current process's block is one of the register area
-pub block-within : (t : Target) (regs : List ℕ) → Blocks t regs → (b : Block) (i : ℕ) → b ≡ blockOf t → b ≡ block.At i
-    → 136 * i + 136 ≤ length regs
+pub block-within : (t : StoredTarget) (words regs : List ℕ) → Blocks t regs → (b : Block) (i : ℕ)
+    → b ≡ blockOf (viewOf t words) → b ≡ block.At i → 136 * i + 136 ≤ length regs
 unfolding blockOf currentFit
-block-within t regs l b i f e =
-    let k = indexOf t (t .current) in
+block-within t words regs l b i f e =
+    let k = processOf (t .processes) (t .count) (t .current) in
     let a = at-index (eqb (t .selected) 0) (isStopped (processAt (t .processes) k)) i k (sym e ∙ f) in
     let h = and-both (eqb (t .selected) 1) (ltb k (t .count)) (rw (a .0) at (l .current)) in
     omega (arith, ltb-true k (t .count) (h .1))
-
--- ---- a record that is ready
-
-module _ (t : Target) (s : Scan) (mem regs : List ℕ) (r : ReadyAll house t s mem regs) where
-  pub ready-listed : Blocks t regs
-  ready-listed = record {
-    few = fit-few house t mem (r .0 .fit);
-    registers = r .1;
-    current = tests-of t mem (r .0 .fit) .current;
-  }
 
 -- ---- the replies
 
@@ -167,10 +156,9 @@ module _ (w : World) (addr n : ℕ) where
 -- ---- the plain bytes of a record's table
 
 -- a scan's plain bytes are sixteen, before a write and after it
-pub sixteen : (t : Target) (vs : List Val) (s : Scan) (mem : List ℕ) → Is target.the-row t vs
-    → Ready house t s mem → 16 ≡ length (s .plain)
-sixteen t vs s mem h r =
-    sym (ap length (r .plain) ∙ sixteen-plains (t .table .entries) (eight-entries t vs h) (two-each t vs h))
+pub sixteen : (s : Scan) (vs : List Val) → Is scan.the-row s vs → 16 ≡ length (s .plain)
+sixteen s vs h =
+    sym (sym (length-map (s .plain) (λ (x : ℕ). x)) ∙ (h .1 .1 .1 .1 .1 .1 .1 .0 .1 .0 .1))
 
 pub length-after : (w : ℕ) (ss ps : List ℕ) (at : ℕ) (bytes plain : List ℕ) → plain
     ≡ plainAfter w ss ps at bytes → length ps ≡ length plain
@@ -201,21 +189,36 @@ module _ (w : World) (addr : ℕ) (bytes : List ℕ) where
       ≡ plainAfter 2 ss ps (addr - w .target .base) bytes)
       (r : reply ≡ bytesOf Rmput) where
     -- the window's bytes, and the table with the slots' bytes taken
-    pub put-window : outcome 0 Nothing (world (applied (w .target) Plain plain) mem (w .regs)) reply
+    pub put-window : outcome 0 Nothing
+        (world (withEntries (w .target) (withPlains (w .target .table .entries) plain)) mem (w .regs)) reply
         ≡ putTo Window w addr bytes
-    unfolding putTo repliedWith windowWritten applied
+    unfolding putTo repliedWith windowWritten
     put-window = rw (m, p, r, e, f)
 
     -- where no slot's byte changed, the record is as it was
     pub put-same : TwoEach (w .target .table .entries) → sameList ps plain ≡ true
         → outcome 0 Nothing (world (w .target) mem (w .regs)) reply ≡ putTo Window w addr bytes
-    unfolding applied withEntries withTable
+    unfolding withEntries withTable
     put-same two same =
         let es = w .target .table .entries in
         let kept : withPlains es plain ≡ es = ap (withPlains es) (sym (same-eq ps plain same) ∙ f)
         ∙ with-plains es two in
         ap (λ (l : List Entry). outcome 0 Nothing (world (withEntries (w .target) l) mem (w .regs)) reply) (sym kept)
         ∙ put-window
+
+-- the same of the record of the code, whose entries take the slots' bytes
+pub put-stored : (t : StoredTarget) (words old regs : List ℕ) (addr : ℕ) (bytes ss ps mem plain reply : List ℕ)
+    → length (t .table .entries) ≡ 8 → 16 ≡ length ps
+    → let w = world (viewOf t words) old regs in
+    ss ≡ sites (w .target) → ps ≡ plains (w .target) → mem ≡ memAfter 2 ss old (addr - t .base) bytes
+    → plain ≡ plainAfter 2 ss ps (addr - t .base) bytes → reply ≡ bytesOf Rmput
+    → (x : Effect) → x ≡ effectOf 0 Nothing Plain plain reply
+    → requestOutcome t x words mem regs ≡ putTo Window w addr bytes
+put-stored t words old regs addr bytes ss ps mem plain reply z n e f m p r x q =
+    let l : length plain ≡ 2 * length (t .table .entries) =
+    omega (arith, length-after 2 ss ps (addr - t .base) bytes plain p) in
+    rw (q, stored-plains t plain words l)
+    (put-window (world (viewOf t words) old regs) addr bytes ss ps e f mem plain reply m p r)
 
 module _ (w : World) (addr n : ℕ) (d : Data4) where
   pub put-none : n ≡ 0 → (reply : List ℕ) → reply ≡ bytesOf Rmput → outcome 0 Nothing w reply ≡ mput w addr n d

@@ -1,27 +1,19 @@
 -- The current process's block: where it is or why it may not be used, its bytes, and the reply to a read of it.
-use mathlib.Core.Path.{_≡_}
-use Prim.Native.Nat.{ℕ, _*_, _≤_}
-use mathlib.Core.Bool.{true, cond}
+use Prim.Native.Nat.{ℕ}
+use mathlib.Core.Bool.{cond}
 use mathlib.Core.List.{List, []}
 use lib.Dec.{eqb}
 use lib.ListN.{length}
-use Rattle.target_fit.specs.Fit.{processAt, currentFit}
+use Rattle.target_fit.specs.Fit.{processAt}
 use Rattle.memory.specs.Write.{bytesAt}
 use Rattle.rules.specs.Record.{indexOf, isStopped, blockAt}
 use Rattle.rules.specs.Request.{data9Of}
-use Rattle.target.specs.Limits.{blockSize, maxProcesses}
-use Rattle.target.specs.declared.Target.{Target}
+use Rattle.target.specs.View.{Target}
 use Rattle.wire.specs.Message.{bytesOf}
 use Rattle.wire.specs.declared.Message.the-variants.{Rerr, Rmget}
 use Rattle.wire_text.specs.declared.Reason.the-variants.{Pid, Notstop}
 use Rattle.request_memory.specs.declared.Block.{Block}
 use Rattle.request_memory.specs.declared.Block.the-variants.{At, Refused}
-
--- there is a block for every process, and the current process is none or a listed one
-pub record Blocks (t : Target) (regs : List ℕ) : Type 0 where
-  pub few : t .count ≤ maxProcesses
-  pub registers : length regs ≡ blockSize * t .count
-  pub current : currentFit (t .selected) (t .current) (t .processes) (t .count) ≡ true
 
 -- "none current gives pid, not Stopped gives notstop"
 unfoldable pub blockOf : Target → Block

@@ -25,10 +25,10 @@ ghost use Rattle.wire.specs.declared.Message.the-variants as message;
 ghost use Rattle.rules.specs.declared.Answer.the-variants.{Nothing};
 ghost use Rattle.rules.specs.Outcome.{world, outcome};
 ghost use Rattle.step_effect.specs.Effect.{requestOutcome};
-ghost use Rattle.step_effect.specs.Ready.{Lent, Arrays};
+ghost use Rattle.step_effect.specs.Ready.{Blocks, Lent, Arrays};
 ghost use Rattle.target.specs.View.{viewOf};
 ghost use Rattle.rules.specs.Request.{data9Of, putTo, mget as mgetOf, mput as mputOf};
-ghost use Rattle.request_memory.specs.Access.{Blocks, blockOf, blockPart, blockReply};
+ghost use Rattle.request_memory.specs.Access.{blockOf, blockPart, blockReply};
 
 // The index of the current process's block, or why it may not be used.
 pub enum Block {
@@ -39,7 +39,7 @@ pub enum Block {
 fn block_of(t: Target) -> Block
     requires { ⌜ t .count ≤ maxProcesses ⌝ }
     requires { ⌜ currentFit (t .selected) (t .current) (t .processes) (t .count) ≡ true ⌝ }
-    ensures { λ r. ⌜ r ≡ blockOf t ⌝ }
+    ensures { λ r. ⌜ ((words : List ℕ) → r ≡ blockOf (viewOf t words)) ⌝ }
 {
     if t.selected == 0 {
         return Block::Refused(Reason::Pid);

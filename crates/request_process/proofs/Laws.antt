@@ -5,48 +5,32 @@ use mathlib.Core.List.{List}
 use Prim.Native.Nat.{ℕ, _+_, _*_, _<_}
 use native.Mathlib.Omega.{arith}
 use borrow.Author.Tests.{eq-eqb, ne-eqb}
-use lib.ListN.{getD, replicate}
+use lib.ListN.{getD}
 use Rattle.common.specs.Bytes.{wordAt}
 use Rattle.common.proofs.Lists.{part-at}
 use Rattle.target_fit.specs.Fit.{stopped, findOf}
 use Rattle.target_fit.proofs.Laws.{onFound, on-found}
 use Rattle.target_fit.specs.declared.Lookup.{Lookup}
 use Rattle.target_fit.specs.declared.Lookup.the-variants.{At, Unlisted}
-use Rattle.step_effect.specs.Change.{applied}
-use Rattle.rules.specs.Outcome.{World, world, Outcome, repliedWith, error}
-use Rattle.step_effect.specs.Ready.{servedOutcome}
-use Rattle.rules.specs.declared.Answer.{Answer}
+use Rattle.rules.specs.Outcome.{World, Outcome, error}
 use Rattle.rules.specs.Record.{isStopped, blockAt, pcOf}
 use Rattle.rules.specs.Request.{onProcess}
-use Rattle.step_effect.specs.declared.Change.{Change}
-use Rattle.step_effect.specs.declared.Served.{Served}
 use Rattle.target.specs.declared.Process.{Process}
-use Rattle.target.specs.declared.Target.{Target}
-use Rattle.wire.specs.Message.{bytesOf}
-use Rattle.wire.specs.declared.Message.{Message}
 use Rattle.wire_text.specs.declared.Reason.the-variants.{Pid}
-
--- an answer and a change with the bytes of a message: the reply, over the record with the change made
-pub replies : {answer : Answer} {change : Change} {b : List ℕ} {r : Served} (t : Target) (m : Message)
-    (mem regs : List ℕ)
-    → r ≡ record { answer = answer; change = change; plain = replicate 16 0; bytes = b } → b ≡ bytesOf m
-    → servedOutcome t r mem regs ≡ repliedWith answer m (world (applied t change (replicate 16 0)) mem regs)
-unfolding repliedWith
-replies t m mem regs e f = rw (e, f)
 
 -- ---- a request on a process, by whether its pid is listed
 
-module _ (w : World) (pid : ℕ) (l : Lookup) (e : l ≡ findOf (w .target) pid) where
+module _ (w : World) (pid : ℕ) (l : Lookup) (e : l ≡ findOf (w .target .processes) (w .target .count) pid) where
   -- it is not: Rerr pid
   pub unlisted : l ≡ Unlisted → (serve : ℕ → Process → Outcome) → error Pid w ≡ onProcess w pid serve
   unfolding onProcess onFound
-  unlisted g serve = on-found (w .target) pid serve (error Pid w) l Unlisted e g
+  unlisted g serve = on-found (w .target .processes) (w .target .count) pid serve (error Pid w) l Unlisted e g
 
   module _ (i : ℕ) (p : Process) (g : l ≡ At i p) where
     -- it is: what the request says of its process
     pub listed : (serve : ℕ → Process → Outcome) → serve i p ≡ onProcess w pid serve
     unfolding onProcess onFound
-    listed serve = on-found (w .target) pid serve (error Pid w) l (At i p) e g
+    listed serve = on-found (w .target .processes) (w .target .count) pid serve (error Pid w) l (At i p) e g
 
     -- Tstop and Tstart: one outcome for a Stopped process, another for any other
     module _ (yes no : ℕ → Process → Outcome) where

@@ -9,7 +9,7 @@ use Rattle.step_effect.specs.Change.{stored, touchedOf}
 use Rattle.step_effect.specs.declared.Change.{Change}
 use Rattle.step_effect.specs.declared.Effect.{Effect}
 
-unfoldable pub effectOf : ℕ → Answer → Change → List ℕ → List ℕ → Effect
+abbrev pub effectOf : ℕ → Answer → Change → List ℕ → List ℕ → Effect
 effectOf number answer change plain reply = record {
   number = number;
   answer = answer;

@@ -31,10 +31,12 @@ pub record Arrays (t : Target) (s : Scan) : Type 0 where
   pub sites : s .sites ≡ sitesOf (t .base) (t .table .entries)
   pub plain : s .plain ≡ plainsOf (t .table .entries)
 
--- what a step needs of the buffers and of the processes, apart from the table: a window of the record's size, a block
--- for every process, and a current process that is none or a listed one
-pub record Lent (t : StoredTarget) (mem regs : List ℕ) : Type 0 where
+-- a block for every process, and a current process that is none or a listed one
+pub record Blocks (t : StoredTarget) (regs : List ℕ) : Type 0 where
   pub few : t .count ≤ maxProcesses
-  pub memory : length mem ≡ t .size
   pub registers : length regs ≡ blockSize * t .count
   pub current : currentFit (t .selected) (t .current) (t .processes) (t .count) ≡ true
+
+-- and a window of the record's size
+abbrev pub Lent : StoredTarget → List ℕ → List ℕ → Type 0
+Lent t mem regs = Blocks t regs × (length mem ≡ t .size)

@@ -1,9 +1,10 @@
 -- `breakpoint::pass_at` meets its contract: the entry that is found is the one whose bytes are answered. Assumes
 -- nothing.
 use borrow.Author.Needs.{needs}
-use Rattle.rules.specs.Breakpoint.{passOf}
+use mathlib.Core.Path.{_∙_}
+use Rattle.target.specs.View.{elementsOf}
 use Rattle.target_fit.proofs.Slots.{eight-entries}
-use Rattle.breakpoint.proofs.Laws.{pass-none, pass-one}
+use Rattle.breakpoint.proofs.Laws.{pass-none, pass-one, pass-stored}
 use Rattle.breakpoint.proofs.pass_at.Statement.{statement}
 use Rattle.breakpoint.proofs.pass_at.Tie as tie
 
@@ -11,10 +12,11 @@ breakpoint-at-requires : tie.Need-breakpoint-at-requires
 breakpoint-at-requires c κs = search needs
 
 returns : tie.Need-returns
-returns c =
+returns c words f =
     let b = c .before in
     let s = b .before in
-    pass-none _ _ _ (eight-entries (s .args .t) _ (s .good .0)) (b .breakpoint-at .ensures) (c .if1 .taken)
+    pass-none _ _ _ (eight-entries (s .args .t) _ (elementsOf words) (s .good .0)) (b .breakpoint-at .ensures words f)
+    (c .if1 .taken)
 
 mul-e : tie.Need-mul-e
 mul-e c = search needs
@@ -29,12 +31,13 @@ element-copy-out-t17 : tie.Need-element-copy-out-t17
 element-copy-out-t17 c = search needs
 
 returns-2 : tie.Need-returns-2
-unfolding passOf
-returns-2 c =
+returns-2 c words f =
     let i = c .before .before .before .before in
     let b = i .before in
     let s = b .before in
-    pass-one _ _ _ (eight-entries (s .args .t) _ (s .good .0)) (b .breakpoint-at .ensures) (i .if1 .left)
+    pass-stored (s .args .t) words _ _ (s .good .0) (i .if1 .left)
+    ∙ pass-one _ _ _ (eight-entries (s .args .t) _ (elementsOf words) (s .good .0)) (b .breakpoint-at .ensures words f)
+    (i .if1 .left)
 
 pub pass-at-spec : {M : Type 1} → statement M
 pass-at-spec =

@@ -2,7 +2,7 @@
 -- Assumes nothing.
 use borrow.Author.Needs.{needs}
 use Rattle.rules.specs.Breakpoint.{removed}
-use Rattle.breakpoint.proofs.Laws.{shaped-of, slot-site, slot-plain}
+use Rattle.breakpoint.proofs.Laws.{slot-site, slot-plain}
 use Rattle.breakpoint.proofs.put_back.Statement.{statement}
 use Rattle.breakpoint.proofs.put_back.Tie as tie
 
@@ -42,8 +42,7 @@ returns c =
     let l = c .before .before in
     let s = l .before .before .before .before .before in
     let a = s .args in
-    let h = shaped-of (a .t) _ (s .good .0) in
-    λ regs. rw (l .lay .ensures, slot-site (a .t) (a .s) (a .k) h (s .pre), slot-plain (a .t) (a .s) (a .k) h (s .pre))
+    λ t regs r. rw (l .lay .ensures, slot-site t (a .s) (a .k) r, slot-plain t (a .s) (a .k) r)
 
 pub put-back-spec : {M : Type 1} → statement M
 put-back-spec =

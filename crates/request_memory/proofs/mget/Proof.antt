@@ -1,7 +1,7 @@
 -- `request_memory::mget` meets its contract: nothing is read where n is 0, else the place that the address names
 -- decides of which of the two slices the stretch is a part, and how it is read. Assumes nothing.
 use mathlib.Core.Path.{_≡_, refl, sym, ap, _∙_}
-use mathlib.Core.List.{List}
+use mathlib.Core.List.{List, []}
 use Prim.Native.Nat.{ℕ}
 use native.Mathlib.Omega.{arith}
 use borrow.Author.Needs.{needs}
@@ -12,9 +12,10 @@ use Rattle.memory.specs.declared.Place.{Place}
 use Rattle.memory.specs.declared.Place.the-variants.{Registers, Window}
 use Rattle.memory.proofs.Parts.{named, within-registers, within-window, read-window}
 use Rattle.rules.specs.Outcome.{World, world}
+use Rattle.target.specs.View.{viewOf}
 use Rattle.rules.specs.Request.{gotFrom}
 use Rattle.request_memory.specs.Access.{blockPart}
-use Rattle.request_memory.proofs.Laws.{ready-listed, block-within, refuses, got-none, got-registers, got-window}
+use Rattle.request_memory.proofs.Laws.{block-within, refuses, got-none, got-registers, got-window}
 use Rattle.request_memory.proofs.Laws.{got-from}
 use Rattle.request_memory.proofs.mget.Statement.{statement}
 use Rattle.request_memory.proofs.mget.Tie as tie
@@ -26,8 +27,8 @@ place-at z = z .before .before .before
 abbrev start : tie.After-stretch → tie.Start
 start z = place-at z .before .before .before .before
 
-abbrev world-at : tie.After-stretch → World
-world-at z = let a = start z .args in world (a .t) (now (a .mem)) (now (a .regs))
+abbrev world-at : tie.After-stretch → List ℕ → World
+world-at z words = let a = start z .args in world (viewOf (a .t) words) (now (a .mem)) (now (a .regs))
 
 -- the place that is found is the one that the address names, of a window of the record's size and of the memory's
 module _ (z : tie.After-stretch) (q : Place) (e : place-at z .place-of .result ≡ q) where
@@ -35,7 +36,7 @@ module _ (z : tie.After-stretch) (q : Place) (e : place-at z .place-of .result �
   place-is = named _ _ _ _ _ _ (place-at z .place-of .ensures) e
 
   place-in : let a = start z .args in placeOf (a .t .base) (length (now (a .mem))) (a .addr) (a .n) ≡ q
-  place-in = let a = start z .args in ap (λ (n : ℕ). placeOf (a .t .base) n (a .addr) (a .n)) (start z .pre .0 .memory)
+  place-in = let a = start z .args in ap (λ (n : ℕ). placeOf (a .t .base) n (a .addr) (a .n)) (start z .pre .1)
       ∙ place-is
 
 -- the stretch that it names
@@ -55,22 +56,20 @@ rmget-requires : tie.Need-rmget-requires
 rmget-requires c κs = search needs
 
 returns : tie.Need-returns
-returns c = got-none _ _ _ (c .rmget .ensures) _ _ refl (c .before .if1 .taken)
+returns c words f = got-none _ _ _ (c .rmget .ensures) _ _ refl (c .before .if1 .taken)
 
 place-of-requires : tie.Need-place-of-requires
 place-of-requires c κs = search needs
 
 block-of-requires : tie.Need-block-of-requires
 block-of-requires c κs =
-    let s = c .before .before .before .before in
-    let l = ready-listed _ (s .args .s) _ (now (s .args .regs)) (s .pre) in
+    let l = c .before .before .before .before .pre .0 in
     (l .few, l .current)
 
 block-part-requires : tie.Need-block-part-requires
 block-part-requires c κs =
     let s = c .before .before .before .before .before in
-    λ i e. block-within (s .args .t) _ (ready-listed _ (s .args .s) _ (now (s .args .regs)) (s .pre)) _ i
-    (c .block-of .ensures) e
+    λ i e. block-within (s .args .t) [] _ (s .pre .0) _ i (c .block-of .ensures []) e
 
 stretch-requires : tie.Need-stretch-requires
 stretch-requires c κs = search needs
@@ -103,39 +102,38 @@ rerr-requires c κs = search needs
 
 returns-2 : tie.Need-returns-2
 unfolding stretchOf
-returns-2 c =
+returns-2 c words f =
     let e = c .before in
     let z = e .before .before in
     let s = start z in
     let b = z .before .before in
     let q = place-is z Registers (e .enum-told .given .1) in
-    got-from (world-at z) _ _ (place-at z .before .if1 .left) _ q _
-    (got-registers (world-at z) _ _ _ (b .block-of .ensures)
-    (λ i g. block-within (s .args .t) _ (ready-listed _ (s .args .s) _ (now (s .args .regs)) (s .pre)) _ i
-    (b .block-of .ensures) g)
+    got-from (world-at z words) _ _ (place-at z .before .if1 .left) _ q _
+    (got-registers (world-at z words) _ _ _ (b .block-of .ensures words)
+    (λ i g. block-within (s .args .t) words _ (s .pre .0) _ i (b .block-of .ensures words) g)
     (within-registers _ _ _ _ q) _
     (rw (stretch-is z, place-in z Registers (e .enum-told .given .1)) at (c .block-reply .ensures)))
 
 returns-3 : tie.Need-returns-3
-returns-3 c =
+returns-3 c words f =
     let p = c .before in
     let e = p .before .before .before .before .before .before in
     let z = e .before .before in
     let s = start z in
     let a = s .args in
-    got-from (world-at z) _ _ (place-at z .before .if1 .left) _ (place-is z Window (e .enum-told2 .given .1)) _
-    (got-window (world-at z) _ _ (c .rmget2 .ensures) (a .addr) (a .n)
-    (rw (← s .pre .0 .sites, ← s .pre .0 .plain)
+    got-from (world-at z words) _ _ (place-at z .before .if1 .left) _ (place-is z Window (e .enum-told2 .given .1)) _
+    (got-window (world-at z words) _ _ (c .rmget2 .ensures) (a .addr) (a .n)
+    (rw (← f .sites, ← f .plain)
     (p .read .ensures
     ∙ read-window (now (a .mem)) (a .t .base) (a .addr) (a .n) _ (a .s .sites) (a .s .plain) _
     (place-in z Window (e .enum-told2 .given .1)) (stretch-is z))))
 
 returns-4 : tie.Need-returns-4
 unfolding gotFrom
-returns-4 c =
+returns-4 c words f =
     let e = c .before in
     let z = e .before .before in
-    got-from (world-at z) _ _ (place-at z .before .if1 .left) _ (place-is z _ (e .enum-told3 .given .1)) _
+    got-from (world-at z words) _ _ (place-at z .before .if1 .left) _ (place-is z _ (e .enum-told3 .given .1)) _
     (refuses _ _ _ (c .rerr .ensures))
 
 pub mget-spec : {M : Type 1} → statement M

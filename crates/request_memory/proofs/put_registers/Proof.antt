@@ -7,7 +7,9 @@ use denote.Ref.{now}
 use borrow.Author.Needs.{needs}
 use lib.ListN.{length}
 use Rattle.memory.proofs.Parts.{put-copied}
+use mathlib.Core.List.{[]}
 use Rattle.rules.specs.Outcome.{world}
+use Rattle.target.specs.View.{viewOf}
 use Rattle.request_memory.proofs.Laws.{block-within, refuses, put-zero, put-refused, put-block}
 use Rattle.request_memory.proofs.put_registers.Statement.{statement}
 use Rattle.request_memory.proofs.put_registers.Tie as tie
@@ -16,9 +18,9 @@ rerr-requires : tie.Need-rerr-requires
 rerr-requires c κs = search needs
 
 returns : tie.Need-returns
-returns c mem =
+returns c words mem =
     let a = c .before .before .before .before .args in
-    let w = world (a .t) mem (now (a .regs)) in
+    let w = world (viewOf (a .t) words) mem (now (a .regs)) in
     refuses w _ _ (c .rerr .ensures) ∙ put-zero w (a .addr) (now (a .bytes)) (c .before .if1 .taken)
 
 block-of-requires : tie.Need-block-of-requires
@@ -31,13 +33,13 @@ rerr-requires-2 : tie.Need-rerr-requires-2
 rerr-requires-2 c κs = search needs
 
 returns-2 : tie.Need-returns-2
-returns-2 c mem =
+returns-2 c words mem =
     let k = c .before .before in
     let b = k .before .before in
     let a = b .before .before .before .before .args in
-    let w = world (a .t) mem (now (a .regs)) in
+    let w = world (viewOf (a .t) words) mem (now (a .regs)) in
     refuses w _ _ (c .rerr2 .ensures)
-    ∙ put-refused w (a .addr) (now (a .bytes)) (b .before .if1 .left) _ _ (b .block-of .ensures) (k .block .given .1)
+    ∙ put-refused w (a .addr) (now (a .bytes)) (b .before .if1 .left) _ _ (b .block-of .ensures words) (k .block .given .1)
 
 enum-known-block-2 : tie.Need-enum-known-block-2
 enum-known-block-2 c = search needs
@@ -52,7 +54,7 @@ fits c =
     omega (
       arith,
       block-within
-          (s .args .t) (now (s .args .regs)) (s .pre .0) _ _ (k .block-of .ensures) (c .before .block2 .given .1),
+          (s .args .t) [] (now (s .args .regs)) (s .pre .0) _ _ (k .block-of .ensures []) (c .before .block2 .given .1),
     )
 
 mul-from : tie.Need-mul-from
@@ -83,14 +85,14 @@ same-length : tie.Need-same-length
 same-length c = search needs
 
 returns-3 : tie.Need-returns-3
-returns-3 c mem =
+returns-3 c words mem =
     let r = c .before .before .before in
     let k = r .before .before in
     let b = k .before .before .before in
     let a = b .before .before .before .before .args in
     let i = k .before .block2 .given .0 .0 in
-    put-block (world (a .t) mem (now (a .regs))) (a .addr) (now (a .bytes)) (b .before .if1 .left) _ i
-    (b .block-of .ensures)
+    put-block (world (viewOf (a .t) words) mem (now (a .regs))) (a .addr) (now (a .bytes)) (b .before .if1 .left) _ i
+    (b .block-of .ensures words)
     (k .before .block2 .given .1) _ _
     (put-copied (now (a .regs)) (now (a .bytes)) _ (136 * i + a .addr) (fits k) (r .copy .ensures))
     (c .bytes-of .ensures)
