@@ -4,9 +4,9 @@ use mathlib.Core.List.{List, [], _∷_}
 use Prim.Native.Nat.{ℕ, _+_, _<_, _≤_}
 use native.Mathlib.Omega.{arith}
 use borrow.Author.Tests.{ne-eqb}
-use lib.ListN.{length, getD, take, drop, length-take, length-drop}
+use lib.ListN.{length, getD, drop, length-take, length-drop}
 use Rattle.common.proofs.Tab.{map-at}
-use Rattle.pool_rows.specs.Rows.{total, startOf, afterAll}
+use Rattle.pool_rows.specs.Rows.{total, afterAll}
 use Rattle.pool_rows.proofs.Places.{end-le}
 use Rattle.target.specs.declared.Element.{Element}
 use Rattle.target.specs.declared.Entry.{Entry}

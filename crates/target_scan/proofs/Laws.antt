@@ -1,68 +1,94 @@
--- Laws of the walk over the table, and of the whole record. Assumes nothing.
+-- Laws of the walk over the table. Assumes nothing.
 use mathlib.Core.Path.{_≡_, refl, sym, ap, _∙_}
 use mathlib.Core.Bool.{Bool, true, false, not, _&&_, and-false, or-true}
 use mathlib.Core.List.{List}
 use Prim.Native.Nat.{ℕ, _+_, _-_, _*_, _/_, _%_, _<_, _≤_}
+use native.Mathlib.Nat.{add-zero}
 use native.Mathlib.Omega.{arith}
-use borrow.Author.Tests.{not-true, not-false, ne-eqb}
-use lib.Dec.{eqb}
-use lib.ListN.{length, getD, set, replicate}
+use borrow.Author.Tests.{not-true, not-false, eq-eqb, ne-eqb, eqb-true, le-leb, lt-leb}
+use lib.Dec.{eqb, leb}
+use lib.ListN.{length, getD, set, take, drop, replicate}
+use lib.Seq.{getD-take, length-take-le}
 use Rattle.common.specs.Every.{every}
-use Rattle.common.specs.First.{firstOf}
 use Rattle.common.proofs.Every.{every-at, every-all, every-fails, every-more, every-done, every-ext}
-use Rattle.common.proofs.Cases.{on-test, same-eqb}
+use Rattle.common.proofs.Cases.{on-test, on-less, same-eqb}
 use Rattle.common.proofs.Fill.{filled, fill-before, fill-set, fill-keep, fill-whole, fill-none}
-use Rattle.common.proofs.Same.{and-both, parts}
-use Rattle.target.specs.declared.Entry.{Entry}
-use Rattle.target.specs.declared.Target.{Target}
+use Rattle.common.proofs.Same.{true-or-false, and-both, parts}
+use Rattle.target.specs.declared.Element.{Element}
+use Rattle.target.specs.declared.Entry.{Entry as Stored}
 use Rattle.target.specs.Free.{isFree}
-use Rattle.condition.specs.Depth.{depthOf, wellFormed}
+use Rattle.target.specs.Fresh.{pastEntries}
+use Rattle.target.specs.View.{Entry, viewEntry, viewEntries, sizeOf, startAt, heldBy}
+use Rattle.condition.specs.Depth.{wellFormed}
+use Rattle.condition.proofs.Depth.{formed-few}
 use Rattle.target.proofs.Shape.{EntryShape}
+use Rattle.target.proofs.View.{length-view, view-at}
+use Rattle.pool.proofs.Sizes.{size-free, start-none, start-more, start-all}
 use Rattle.memory.specs.Head.{house}
 use Rattle.memory.specs.Overlay.{freeSite}
 use Rattle.memory.specs.Place.{isSite}
 use Rattle.target_fit.specs.Arrays.{freeId, idOf, siteOf}
-use Rattle.target_fit.specs.Fit.{
-  windowFit,
-  processesFit,
-  entryAt,
-  apart,
-  siteFit,
-  entryFit,
-  slotFit,
-  entriesFit,
-  marksFit,
-  currentFit,
-  draftTest,
-  draftFit,
-  fitOf,
-  unfitScan,
-  scanOf,
-}
+use Rattle.target_fit.specs.Fit.{entryAt, apart, siteFit, entryFit, slotFit, entriesFit, unfitScan}
 use Rattle.target_fit.specs.declared.Scan.{Scan}
-use Rattle.target_fit.proofs.Laws.{answered-yes, scan-fit, scan-is}
-use Rattle.target_fit.proofs.Slots.{ids-tab, sites-tab, plainByte, plains-tab, Small, first-free, shape-at}
+use Rattle.target_fit.proofs.Laws.{answered-yes}
+use Rattle.target_fit.proofs.Slots.{ids-tab, sites-tab, TwoEach, plainByte, plains-tab}
+use Rattle.target_fit.proofs.View.{count-used, end-held}
+use Rattle.target_scan.specs.Parts.{usedTest, scanEntries}
 
 -- ---- slots: the tests of an entry
-
--- those of a used entry, over its depth
-abbrev pub usedTest : ℕ → List ℕ → Entry → ℕ → Bool
-usedTest base mem e depth = eqb (e .used) 1 && siteFit house base mem (e .site) && eqb depth 1
 
 module _ (base : ℕ) (mem : List ℕ) (e : Entry) where
   entry-free : isFree e ≡ true → entryFit house base mem e ≡ true
   unfolding entryFit
   entry-free q = rw q
 
-  entry-used : isFree e ≡ false → (depth : ℕ) → depth ≡ depthOf (e .elements) (e .count)
-      → entryFit house base mem e ≡ usedTest base mem e depth
-  unfolding entryFit wellFormed
-  entry-used q depth d = rw (q, d)
+  -- the site of a used entry that is fit is even and not below the window
+  entry-site : isFree e ≡ false → entryFit house base mem e ≡ true → (e .site % 2 ≡ 0) × (base ≤ e .site)
+  unfolding entryFit siteFit isSite
+  entry-site q h =
+      let g = rw q at h in
+      (search parts depth 9, search parts depth 9)
 
-  -- the site of a used entry that passes is even and not below the window
-  used-site : (depth : ℕ) → usedTest base mem e depth ≡ true → (e .site % 2 ≡ 0) × (base ≤ e .site)
-  unfolding siteFit isSite
-  used-site depth h = (search parts depth 9, search parts depth 9)
+-- those of a used entry of the code, whose elements start at a place of the pool
+module _ (base : ℕ) (mem : List ℕ) (e : Stored) (from : ℕ) (pool : List Element) (q : e .used ≡ 0 → ⊥) where
+  abbrev its : List Element
+  its = take (e .count) (drop from pool)
+
+  -- the entry as the rules see it
+  abbrev pub seenAt : Entry
+  seenAt = viewEntry e (take (sizeOf e) (drop from pool))
+
+  abbrev ruled : Bool
+  ruled = eqb (e .used) 1 && siteFit house base mem (e .site) && eqb (length its) (e .count) && wellFormed its
+
+  ruled-is : entryFit house base mem seenAt ≡ ruled
+  unfolding entryFit isFree
+  ruled-is = rw (ne-eqb (e .used) 0 q, count-used e q)
+
+  passes : ruled ≡ true → leb (from + e .count) 128 ≡ true → usedTest base mem e from pool ≡ true
+  unfolding usedTest
+  passes h r =
+      let one : eqb (e .used) 1 ≡ true = search parts depth 9 in
+      let site : siteFit house base mem (e .site) ≡ true = search parts depth 9 in
+      let all : eqb (length its) (e .count) ≡ true = search parts depth 9 in
+      let formed : wellFormed its ≡ true = search parts depth 9 in
+      let few : e .count ≤ 64 = omega (arith, eqb-true (length its) (e .count) all, formed-few its formed) in
+      rw (one, site, le-leb (e .count) 64 few, r, all, formed)
+
+  pub used-fits : usedTest base mem e from pool ≡ true → (entryFit house base mem seenAt ≡ true) × (from + e .count ≤ 128)
+  unfolding usedTest
+  used-fits h =
+      let one : eqb (e .used) 1 ≡ true = search parts depth 9 in
+      let site : siteFit house base mem (e .site) ≡ true = search parts depth 9 in
+      let all : eqb (length its) (e .count) ≡ true = search parts depth 9 in
+      let formed : wellFormed its ≡ true = search parts depth 9 in
+      (ruled-is ∙ rw (one, site, all, formed), search parts depth 9)
+
+  -- an entry that fails is unfit, or ends after the pool
+  pub used-fails : usedTest base mem e from pool ≡ false → entryFit house base mem seenAt ≡ true → 128 < from + e .count
+  used-fails f h =
+      on-less 128 (from + e .count) (λ g. g)
+      (λ g. true-or-false (sym f ∙ passes (sym ruled-is ∙ h) (le-leb (from + e .count) 128 g)))
 
 -- ---- slots: an entry against those before it, by the arrays
 
@@ -100,217 +126,212 @@ module _ (base : ℕ) (mem : List ℕ) (e f : Entry) (q : isFree f ≡ false) wh
       → clearOf (idOf e) (siteOf base e) (f .id) (f .site - base) ≡ apart e f
   apart-clear even small s fit =
       on-test (isFree e) (λ r. apart-free r even small s)
-      (λ r.
-      let depth = depthOf (e .elements) (e .count) in
-      apart-used r (used-site base mem e depth (sym (entry-used base mem e r depth refl) ∙ fit) .1) (s .1))
+      (λ r. apart-used r (entry-site base mem e r fit .1) (s .1))
 
 -- ---- the walk over the table
 
+abbrev tableTest : ℕ → List ℕ → List Stored → List Element → Bool
+tableTest base mem es pool = entriesFit house base mem (viewEntries es pool) && leb (heldBy es 0) 128
+
 -- a failed test: the arrays are of free entries
-pub unfit-scan : (test : Bool) (base : ℕ) (es : List Entry) (r : Scan) → r ≡ unfitScan → test ≡ false
-    → r ≡ scanOf test base es
-unfolding scanOf
-unfit-scan test base es r h e = rw e h
+pub unfit-entries : (base : ℕ) (mem : List ℕ) (es : List Stored) (pool : List Element) (r : Scan) → r ≡ unfitScan
+    → tableTest base mem es pool ≡ false → r ≡ scanEntries base mem es pool
+unfolding scanEntries
+unfit-entries base mem es pool r h e = rw e h
 
 -- before entry i: the arrays hold the entries passed, free slots after them, and each entry passed is fit
-pub record Scanning (base : ℕ) (mem : List ℕ) (es : List Entry) (ids sites plain : List ℕ) (i : ℕ) : Type 0 where
+pub record Scanning (base : ℕ) (mem : List ℕ) (es : List Stored) (pool : List Element) (ids sites plain : List ℕ)
+    (held i : ℕ) : Type 0 where
   pub within : i ≤ 8
   pub even : base % 2 ≡ 0
   pub size : length es ≡ 8
-  pub shape : (k : ℕ) → k < 8 → EntryShape (entryAt es k)
-  pub its-ids : ids ≡ filled (λ k. idOf (entryAt es k)) (λ _. freeId) i 8
-  pub its-sites : sites ≡ filled (λ k. siteOf base (entryAt es k)) (λ _. freeSite) i 8
-  pub its-plain : plain ≡ filled (plainByte es) (λ _. 0) (2 * i) 16
-  pub fit : every i (slotFit house base mem es) ≡ true
+  pub shape : (k : ℕ) → k < 8 → EntryShape (getD es k pastEntries)
+  pub start : held ≡ startAt es i
+  pub room : held ≤ 128
+  pub its-ids : ids ≡ filled (λ k. idOf (entryAt (viewEntries es pool) k)) (λ _. freeId) i 8
+  pub its-sites : sites ≡ filled (λ k. siteOf base (entryAt (viewEntries es pool) k)) (λ _. freeSite) i 8
+  pub its-plain : plain ≡ filled (plainByte (viewEntries es pool)) (λ _. 0) (2 * i) 16
+  pub fit : every i (slotFit house base mem (viewEntries es pool)) ≡ true
 
-pub scan-none : (base : ℕ) (mem : List ℕ) (es : List Entry) → base % 2 ≡ 0 → length es ≡ 8
-    → ((k : ℕ) → k < 8 → EntryShape (entryAt es k))
-    → Scanning base mem es (replicate 8 freeId) (replicate 8 freeSite) (replicate 16 0) 0
+pub scan-none : (base : ℕ) (mem : List ℕ) (es : List Stored) (pool : List Element) → base % 2 ≡ 0 → length es ≡ 8
+    → ((k : ℕ) → k < 8 → EntryShape (getD es k pastEntries))
+    → Scanning base mem es pool (replicate 8 freeId) (replicate 8 freeSite) (replicate 16 0) 0 0
 unfolding every
-scan-none base mem es even size shape = record {
+scan-none base mem es pool even size shape = record {
   within = omega arith;
   even = even;
   size = size;
   shape = shape;
+  start = start-none es;
+  room = omega arith;
   its-ids = fill-none _ freeId 8;
   its-sites = fill-none _ freeSite 8;
   its-plain = fill-none _ 0 16;
   fit = refl;
 }
 
--- every entry is passed: the arrays are the table's
-pub scan-all : (base : ℕ) (mem : List ℕ) (es : List Entry) (ids sites plain : List ℕ) (i : ℕ)
-    → Scanning base mem es ids sites plain i
-    → 8 ≤ i → record { fit = true; ids = ids; sites = sites; plain = plain } ≡ scanOf (entriesFit house base mem es)
-    base es
-unfolding entriesFit scanOf
-scan-all base mem es ids sites plain i p h =
-    rw (
-      ← every-done 8 i (slotFit house base mem es) h (p .within) (p .fit),
-      p .its-ids ∙ fill-whole _ _ _ _ h ∙ sym (ids-tab es 8 (p .size)),
-      p .its-sites ∙ fill-whole _ _ _ _ h ∙ sym (sites-tab base es 8 (p .size)),
-      p .its-plain ∙ fill-whole _ _ _ _ (omega arith)
-          ∙ sym (plains-tab es (p .size) (λ k g. p .shape k (omega (arith, p .size)) .plain)),
-    )
+module _ {base : ℕ} {mem : List ℕ} {es : List Stored} {pool : List Element} {ids sites plain : List ℕ} {held i : ℕ}
+    (p : Scanning base mem es pool ids sites plain held i) where
+  abbrev seen : List Entry
+  seen = viewEntries es pool
 
-module _ {base : ℕ} {mem : List ℕ} {es : List Entry} {ids sites plain : List ℕ} {i : ℕ}
-    (p : Scanning base mem es ids sites plain i) (h : i < 8) where
-  abbrev e : Entry
-  e = entryAt es i
+  two : TwoEach seen
+  two k g =
+      let b : k < 8 = omega (arith, p .size, length-view es pool) in
+      rw (view-at es pool k (omega (arith, p .size)))
+      (length-take-le 2 (getD es k pastEntries .plain) (omega (arith, p .shape k b .plain)))
 
-  -- the entry's plain bytes are stored
-  abbrev pub stored : List ℕ
-  stored = set (set plain (2 * i) (getD (e .plain) 0 0)) (2 * i + 1) (getD (e .plain) 1 0)
+  -- every entry is passed: the arrays are the table's
+  pub scan-all : 8 ≤ i
+      → record { fit = true; held = held; depth = 0; ids = ids; sites = sites; plain = plain }
+      ≡ scanEntries base mem es pool
+  unfolding scanEntries entriesFit
+  scan-all h =
+      let z : length seen ≡ 8 = length-view es pool ∙ p .size in
+      let eight : i ≡ 8 = omega (arith, p .within) in
+      let all : held ≡ heldBy es 0 = p .start ∙ ap (startAt es) eight ∙ sym (add-zero (startAt es 8)) ∙ start-all es 8 0 (p .size) in
+      rw (
+        ← every-done 8 i (slotFit house base mem seen) h (p .within) (p .fit),
+        ← all,
+        le-leb held 128 (p .room),
+        p .its-ids ∙ fill-whole _ _ _ _ h ∙ sym (ids-tab seen 8 z),
+        p .its-sites ∙ fill-whole _ _ _ _ h ∙ sym (sites-tab base seen 8 z),
+        p .its-plain ∙ fill-whole _ _ _ _ (omega arith) ∙ sym (plains-tab seen z two),
+      )
 
-  store-plain : stored ≡ filled (plainByte es) (λ _. 0) (2 * (i + 1)) 16
-  store-plain =
-      let low : 2 * i / 2 ≡ i = omega arith in
-      let none : 2 * i % 2 ≡ 0 = omega arith in
-      let high : (2 * i + 1) / 2 ≡ i = omega arith in
-      let one : (2 * i + 1) % 2 ≡ 1 = omega arith in
-      let next : 2 * (i + 1) ≡ 2 * i + 1 + 1 = omega arith in
-      let first = fill-set _ _ _ 16 (p .its-plain) (getD (e .plain) 0 0) (rw (low, none)) in
-      rw next (fill-set _ _ _ 16 first (getD (e .plain) 1 0) (rw (high, one)))
+  module _ (h : i < 8) where
+    abbrev e : Stored
+    e = getD es i pastEntries
 
-  -- the entry is fit, and the arrays hold it
-  scan-more : (its others : List ℕ) → its ≡ filled (λ k. idOf (entryAt es k)) (λ _. freeId) (i + 1) 8
-      → others ≡ filled (λ k. siteOf base (entryAt es k)) (λ _. freeSite) (i + 1) 8 → slotFit house base mem es i ≡ true
-      → Scanning base mem es its others stored (i + 1)
-  scan-more its others a b t = record {
-    within = omega arith;
-    even = p .even;
-    size = p .size;
-    shape = p .shape;
-    its-ids = a;
-    its-sites = b;
-    its-plain = store-plain;
-    fit = every-more i _ (p .fit) t;
-  }
+    abbrev v : Entry
+    v = viewEntry e (take (sizeOf e) (drop held pool))
 
-  -- a free entry
-  module _ (q : isFree e ≡ true) where
-    free-slot : slotFit house base mem es i ≡ true
-    unfolding slotFit
-    free-slot = rw (entry-free base mem e q, every-all i _ (λ k g. apart-second (entryAt es k) e q))
+    -- the entry as the rules see it
+    here : entryAt seen i ≡ v
+    here =
+        view-at es pool i (omega (arith, p .size))
+        ∙ ap (λ (n : ℕ). viewEntry e (take (sizeOf e) (drop n pool))) (sym (p .start))
 
-    pub scan-free : Scanning base mem es ids sites stored (i + 1)
-    unfolding idOf siteOf
-    scan-free = scan-more ids sites (p .its-ids ∙ fill-keep _ _ _ _ (rw q)) (p .its-sites ∙ fill-keep _ _ _ _ (rw q))
-        free-slot
+    -- the entry's plain bytes are stored
+    abbrev pub stored : List ℕ
+    stored = set (set plain (2 * i) (getD (e .plain) 0 0)) (2 * i + 1) (getD (e .plain) 1 0)
 
-  -- a used entry, and whether it passes its own tests
-  module _ (q : isFree e ≡ false) (depth : ℕ) (d : depth ≡ depthOf (e .elements) (e .count)) (passed : Bool)
-      (u : passed ≡ usedTest base mem e depth) where
-    entry-passed : entryFit house base mem e ≡ passed
-    entry-passed = entry-used base mem e q depth d ∙ sym u
+    store-plain : stored ≡ filled (plainByte seen) (λ _. 0) (2 * (i + 1)) 16
+    store-plain =
+        let low : 2 * i / 2 ≡ i = omega arith in
+        let none : 2 * i % 2 ≡ 0 = omega arith in
+        let high : (2 * i + 1) / 2 ≡ i = omega arith in
+        let one : (2 * i + 1) % 2 ≡ 1 = omega arith in
+        let next : 2 * (i + 1) ≡ 2 * i + 1 + 1 = omega arith in
+        let first = fill-set _ _ _ 16 (p .its-plain) (getD (e .plain) 0 0)
+        (rw (low, none, here) (sym (getD-take 2 (e .plain) 0 0 (omega arith)))) in
+        rw next
+        (fill-set _ _ _ 16 first (getD (e .plain) 1 0)
+        (rw (high, one, here) (sym (getD-take 2 (e .plain) 1 0 (omega arith)))))
 
-    pub scan-unfit : not passed ≡ true → entriesFit house base mem es ≡ false
-    unfolding entriesFit slotFit
-    scan-unfit t = every-fails 8 (slotFit house base mem es) i h (rw (entry-passed, not-true passed t))
+    -- the entry is fit, and the arrays hold it
+    scan-more : (its others : List ℕ) (n : ℕ) → its ≡ filled (λ k. idOf (entryAt seen k)) (λ _. freeId) (i + 1) 8
+        → others ≡ filled (λ k. siteOf base (entryAt seen k)) (λ _. freeSite) (i + 1) 8
+        → slotFit house base mem seen i ≡ true → n ≡ held + sizeOf e → n ≤ 128
+        → Scanning base mem es pool its others stored n (i + 1)
+    scan-more its others n a b t s r = record {
+      within = omega arith;
+      even = p .even;
+      size = p .size;
+      shape = p .shape;
+      start = s ∙ ap (λ (m : ℕ). m + sizeOf e) (p .start)
+          ∙ sym (start-more es i pastEntries (omega (arith, p .size)));
+      room = r;
+      its-ids = a;
+      its-sites = b;
+      its-plain = store-plain;
+      fit = every-more i _ (p .fit) t;
+    }
 
-    module _ (t : not passed ≡ false) where
-      its-site : (e .site % 2 ≡ 0) × (base ≤ e .site)
-      its-site = used-site base mem e depth (answered-yes passed (usedTest base mem e depth) u t)
+    -- a free entry
+    module _ (q : e .used ≡ 0) where
+      free : isFree v ≡ true
+      unfolding isFree
+      free = eq-eqb (e .used) 0 q
 
-      pub site-over : base ≤ e .site
-      site-over = its-site .1
-
-      -- clear of the slots before it in the arrays: apart from the entries before it
-      clear-apart : every i (clear ids sites (e .id) (e .site - base)) ≡ every i (λ j. apart (entryAt es j) e)
+      free-slot : slotFit house base mem seen i ≡ true
       unfolding slotFit
-      clear-apart =
-          every-ext i _ _
-          (λ k g.
+      free-slot =
+          rw (here, entry-free base mem v free, every-all i _ (λ k g. apart-second (entryAt seen k) v free))
+
+      pub scan-free : Scanning base mem es pool ids sites stored held (i + 1)
+      unfolding idOf siteOf
+      scan-free =
+          scan-more ids sites held (p .its-ids ∙ fill-keep _ _ _ _ (rw (here, free)))
+          (p .its-sites ∙ fill-keep _ _ _ _ (rw (here, free))) free-slot
+          (rw (← size-free e q, add-zero)) (p .room)
+
+    -- a used entry, and whether it passes its own tests
+    module _ (q : e .used ≡ 0 → ⊥) (passed : Bool) (u : passed ≡ usedTest base mem e held pool) where
+      used : isFree v ≡ false
+      unfolding isFree
+      used = ne-eqb (e .used) 0 q
+
+      slot-false : entryFit house base mem v ≡ false → tableTest base mem es pool ≡ false
+      unfolding entriesFit slotFit
+      slot-false f = rw (every-fails 8 (slotFit house base mem seen) i h (rw (here, f)))
+
+      over : 128 < held + e .count → tableTest base mem es pool ≡ false
+      over g =
           rw (
-            fill-before _ _ i 8 (p .its-ids) 0 k g (omega arith),
-            fill-before _ _ i 8 (p .its-sites) 0 k g (omega arith),
+            lt-leb (heldBy es 0) 128
+                (omega (arith, end-held es i 0 (omega (arith, p .size)), count-used e q, p .start)),
+            and-false,
           )
-          (apart-clear base mem (entryAt es k) e q (p .even) (p .shape i h .id) its-site
-          (and-both _ _ (every-at i (slotFit house base mem es) (p .fit) k g) .0)))
 
-      -- whether it is clear
-      module _ (alone : Bool) (c : alone ≡ every i (clear ids sites (e .id) (e .site - base))) where
-        slot-by : slotFit house base mem es i ≡ alone
+      pub scan-unfit : not passed ≡ true → tableTest base mem es pool ≡ false
+      scan-unfit t =
+          on-test (entryFit house base mem v)
+          (λ f. over (used-fails base mem e held pool q (sym u ∙ not-true passed t) f))
+          slot-false
+
+      module _ (t : not passed ≡ false) where
+        its-fit : (entryFit house base mem v ≡ true) × (held + e .count ≤ 128)
+        its-fit = used-fits base mem e held pool q (answered-yes passed (usedTest base mem e held pool) u t)
+
+        its-site : (e .site % 2 ≡ 0) × (base ≤ e .site)
+        its-site = entry-site base mem v used (its-fit .0)
+
+        pub site-over : base ≤ e .site
+        site-over = its-site .1
+
+        pub held-over : held + e .count ≤ 128
+        held-over = its-fit .1
+
+        -- clear of the slots before it in the arrays: apart from the entries before it
+        clear-apart : every i (clear ids sites (e .id) (e .site - base)) ≡ every i (λ j. apart (entryAt seen j) v)
         unfolding slotFit
-        slot-by = rw (entry-passed, not-false passed t) (sym clear-apart ∙ sym c)
+        clear-apart =
+            every-ext i _ _
+            (λ k g.
+            rw (
+              fill-before _ _ i 8 (p .its-ids) 0 k g (omega arith),
+              fill-before _ _ i 8 (p .its-sites) 0 k g (omega arith),
+            )
+            (apart-clear base mem (entryAt seen k) v used (p .even) (p .shape i h .id) its-site
+            (and-both _ _ (every-at i (slotFit house base mem seen) (p .fit) k g) .0)))
 
-        pub scan-clash : not alone ≡ true → entriesFit house base mem es ≡ false
-        unfolding entriesFit
-        scan-clash r = every-fails 8 (slotFit house base mem es) i h (slot-by ∙ not-true alone r)
+        -- whether it is clear
+        module _ (alone : Bool) (c : alone ≡ every i (clear ids sites (e .id) (e .site - base))) where
+          slot-by : slotFit house base mem seen i ≡ alone
+          unfolding slotFit
+          slot-by = rw (here, its-fit .0) (sym clear-apart ∙ sym c)
 
-        pub scan-used : not alone ≡ false → Scanning base mem es (set ids i (e .id)) (set sites i (e .site - base))
-            stored (i + 1)
-        unfolding idOf siteOf
-        scan-used r =
-            scan-more (set ids i (e .id)) (set sites i (e .site - base)) (fill-set _ _ _ _ (p .its-ids) (e .id) (rw q))
-            (fill-set _ _ _ _ (p .its-sites) (e .site - base) (rw q)) (slot-by ∙ not-false alone r)
+          pub scan-clash : not alone ≡ true → tableTest base mem es pool ≡ false
+          unfolding entriesFit
+          scan-clash r = rw (every-fails 8 (slotFit house base mem seen) i h (slot-by ∙ not-true alone r))
 
--- ---- the whole record
-
--- a window that is fit begins at an even address
-pub window-even : (base size : ℕ) → windowFit base size ≡ true → base % 2 ≡ 0
-unfolding windowFit
-window-even base size h = let four : base % 4 ≡ 0 = search parts depth 8 in omega arith
-
-module _ (t : Target) (mem : List ℕ) where
-  abbrev its-entries : Bool
-  its-entries = entriesFit house (t .base) mem (t .table .entries)
-
-  abbrev its-draft : Bool
-  its-draft = draftFit (t .table .draft) (t .table .entries)
-
-  -- each test alone makes a record unfit
-  pub fit-window : windowFit (t .base) (t .size) ≡ false → fitOf house t mem ≡ false
-  unfolding fitOf
-  fit-window h = rw h
-
-  pub fit-processes : processesFit (t .processes) (t .count) ≡ false → fitOf house t mem ≡ false
-  unfolding fitOf
-  fit-processes h = rw (h, and-false)
-
-  fit-entries : its-entries ≡ false → fitOf house t mem ≡ false
-  unfolding fitOf
-  fit-entries h = rw (h, and-false)
-
-  pub fit-marks : marksFit (t .processes) (t .count) ≡ false → fitOf house t mem ≡ false
-  unfolding fitOf
-  fit-marks h = rw (h, and-false)
-
-  pub fit-current : currentFit (t .selected) (t .current) (t .processes) (t .count) ≡ false → fitOf house t mem ≡ false
-  unfolding fitOf
-  fit-current h = rw (h, and-false)
-
-  fit-draft : its-draft ≡ false → fitOf house t mem ≡ false
-  unfolding fitOf
-  fit-draft h = rw (h, and-false)
-
-  -- what the scan of the table gave
-  module _ (r : Scan) (s : r ≡ scanOf its-entries (t .base) (t .table .entries)) where
-    holds : r .fit ≡ its-entries
-    holds = scan-fit _ _ _ r s
-
-    pub fit-table : r .fit ≡ false → fitOf house t mem ≡ false
-    fit-table h = fit-entries (sym holds ∙ h)
-
-    module _ (h : r .fit ≡ true) (small : Small (t .table .entries)) (free : ℕ)
-        (f : free ≡ firstOf (eqb freeId) (r .ids)) (test : Bool)
-        (d : test ≡ draftTest (t .table .draft) (r .ids) free) where
-      whole : r ≡ scanOf true (t .base) (t .table .entries)
-      whole = scan-is _ _ _ r s (sym holds ∙ h)
-
-      draft-by : test ≡ its-draft
-      unfolding draftFit scanOf
-      draft-by = d ∙ rw (f, ap (λ (x : Scan). x .ids) whole, first-free (t .table .entries) small)
-
-      pub fit-hand : test ≡ false → fitOf house t mem ≡ false
-      fit-hand e = fit-draft (sym draft-by ∙ e)
-
-      -- every test passed: the scan is the record's
-      pub fit-whole : windowFit (t .base) (t .size) ≡ true → processesFit (t .processes) (t .count) ≡ true
-          → marksFit (t .processes) (t .count) ≡ true → currentFit (t .selected) (t .current) (t .processes) (t .count)
-          ≡ true
-          → test ≡ true → r ≡ scanOf (fitOf house t mem) (t .base) (t .table .entries)
-      unfolding fitOf
-      fit-whole w p m c e =
-          let all : fitOf house t mem ≡ true = rw (w, p, sym holds ∙ h, m, c, sym draft-by ∙ e) in
-          rw all whole
+          pub scan-used : not alone ≡ false
+              → Scanning base mem es pool (set ids i (e .id)) (set sites i (e .site - base)) stored (held + e .count)
+              (i + 1)
+          unfolding idOf siteOf
+          scan-used r =
+              scan-more (set ids i (e .id)) (set sites i (e .site - base)) (held + e .count)
+              (fill-set _ _ _ _ (p .its-ids) (e .id) (rw (here, used)))
+              (fill-set _ _ _ _ (p .its-sites) (e .site - base) (rw (here, used)))
+              (slot-by ∙ not-false alone r) (rw (count-used e q)) (its-fit .1)

@@ -9,14 +9,13 @@ use target::Target;
 use target_fit::Scan;
 ghost use mathlib.Core.Path.{_≡_};
 ghost use mathlib.Core.Bool.{not, _&&_};
-ghost use Prim.Native.Nat.{_+_, _%_, _≤_};
-ghost use lib.Dec.{eqb, leb, ltb};
-ghost use lib.ListN.{getD, take, drop};
+ghost use Prim.Native.Nat.{_%_, _≤_};
+ghost use lib.Dec.{eqb, ltb};
+ghost use lib.ListN.{getD};
 ghost use Rattle.common.specs.Every.{every};
 ghost use Rattle.common.specs.First.{firstOf};
-ghost use Rattle.condition.specs.Depth.{wellFormed};
 ghost use Rattle.target_fit.specs.Fit.{siteFit, fitOf, unfitScan, scanOf};
-ghost use Rattle.target_scan.specs.Parts.{scanEntries, scanDraft};
+ghost use Rattle.target_scan.specs.Parts.{usedTest, scanEntries, scanDraft};
 ghost use Rattle.memory.specs.Head.{house};
 ghost use Rattle.target.specs.Limits.{maxEntries, maxPlaces};
 ghost use Rattle.target.specs.View.{elementsOf, viewTable, viewOf};
@@ -63,9 +62,7 @@ fn clear_of(
 // What is left to test of an entry that is not free, whose elements start at a place.
 fn used_fit(mem: &[u8], base: u32, places: &[u32; Table::WORDS], e: Entry, from: usize) -> bool
     requires { ⌜ from ≤ maxPlaces ⌝ }
-    ensures { λ r. ⌜ r ≡ (eqb (e .used) 1 && siteFit house base (now (mem .entry)) (e .site)
-        && leb (from + e .count) maxPlaces
-        && wellFormed (take (e .count) (drop from (elementsOf (now (places .entry)))))) ⌝ }
+    ensures { λ r. ⌜ r ≡ usedTest base (now (mem .entry)) e from (elementsOf (now (places .entry))) ⌝ }
 {
     if e.used != 1 {
         return false;
@@ -154,7 +151,7 @@ pub fn entry_of(ids: &[u32; Table::ENTRIES], id: u32) -> usize
     index
 }
 
-// A condition in hand has an unused id and a free entry waiting. Its elements are tested by `check`.
+// A condition in hand has an unused id and a free entry waiting. Its elements are tested by `scan_draft`.
 fn draft_fit(d: Draft, ids: &[u32; Table::ENTRIES], free: usize) -> bool
     ensures { λ r. ⌜ r ≡ (eqb (d .active) 1 && eqb (firstOf (eqb (d .id)) (now (ids .entry))) maxEntries
         && ltb free maxEntries) ⌝ }

@@ -2,17 +2,19 @@
 -- its table is the record's. Assumes nothing.
 use borrow.Author.Needs.{needs}
 use borrow.Author.Tests.{not-true, not-false}
+use denote.Ref.{now}
+use Rattle.target.specs.View.{elementsOf}
 use Rattle.target_fit.proofs.Laws.{answered-yes, answered-no, processes-few}
 use Rattle.target_fit.proofs.Slots.{target-small}
-use Rattle.target_scan.proofs.Laws.{
+use Rattle.target_scan.proofs.Whole.{
   unfit-scan,
   window-even,
   fit-window,
   fit-processes,
   fit-marks,
   fit-current,
+  held-few,
   fit-table,
-  fit-hand,
   fit-whole,
 }
 use Rattle.target_scan.proofs.check.Statement.{statement}
@@ -76,51 +78,41 @@ scan-table-requires c κs =
 unfit-requires-5 : tie.Need-unfit-requires-5
 unfit-requires-5 c κs = search needs
 
+-- from the scan of the table on: the function's start
+abbrev start : tie.After-scan-table → tie.Start
+start f =
+    f .before .before .before .before .before .before .before .before .before .before .before .before
+
 returns-5 : tie.Need-returns-5
 returns-5 c =
     let o = c .before in
+    let f = o .before .before in
+    let a = start f .args in
     unfit-scan _ _ _ _ (c .unfit5 .ensures)
-    (fit-table _ _ _ (o .before .before .scan-table .ensures) (not-true _ (o .if5 .taken)))
+    (fit-table (a .t) (now (a .places)) (now (a .mem)) _ (f .scan-table .ensures) (not-true _ (o .if5 .taken)))
 
-entry-of-requires : tie.Need-entry-of-requires
-entry-of-requires c κs = search needs
-
-draft-fit-requires : tie.Need-draft-fit-requires
-draft-fit-requires c κs = search needs
-
-unfit-requires-6 : tie.Need-unfit-requires-6
-unfit-requires-6 c κs = search needs
+scan-draft-requires : tie.Need-scan-draft-requires
+scan-draft-requires c κs =
+    let f = c .before .before .before in
+    let a = start f .args in
+    held-few (a .t) (now (a .places)) (now (a .mem)) _ (f .scan-table .ensures)
 
 returns-6 : tie.Need-returns-6
 returns-6 c =
-    let o = c .before in
+    let o = c .before .before in
     let f = o .before .before in
-    let b = f .before .before .before .before .before in
-    let u = b .before .before .before .before in
-    let w = u .before .before .before .before .before .before in
-    let s = w .before .before .before .before in
-    unfit-scan _ _ _ _ (c .unfit6 .ensures)
-    (fit-hand _ _ _ (b .before .before .scan-table .ensures) (not-false _ (b .if5 .left))
-    (target-small (s .args .t) _ (s .good .0)) _
-    (f .entry-of .ensures) _ (o .before .draft-fit .ensures) (not-true _ (o .if6 .taken)))
-
-returns-7 : tie.Need-returns-7
-returns-7 c =
-    let f = c .before .before in
-    let b = f .before .before .before .before .before in
-    let u = b .before .before .before .before in
+    let u = f .before .before in
     let m = u .before .before in
     let p = m .before .before in
     let w = p .before .before in
-    let s = w .before .before .before .before in
-    fit-whole _ _ _ (b .before .before .scan-table .ensures) (not-false _ (b .if5 .left))
-    (target-small (s .args .t) _ (s .good .0)) _
-    (f .entry-of .ensures) _ (c .before .draft-fit .ensures)
+    let s = start f in
+    let a = s .args in
+    fit-whole (a .t) (now (a .places)) (now (a .mem)) _ (f .scan-table .ensures) (not-false _ (o .if5 .left))
+    (target-small (a .t) _ (elementsOf (now (a .places))) (s .good .0))
     (answered-yes _ _ (w .before .window-fit .ensures) (w .if1 .left))
     (answered-yes _ _ (p .before .processes-fit .ensures) (p .if2 .left))
     (answered-yes _ _ (m .before .marks-fit .ensures) (m .if3 .left))
-    (answered-yes _ _ (u .before .current-fit .ensures) (u .if4 .left))
-    (not-false _ (c .if6 .left))
+    (answered-yes _ _ (u .before .current-fit .ensures) (u .if4 .left)) _ (c .scan-draft .ensures)
 
 pub check-spec : {M : Type 1} → statement M
 check-spec =
@@ -141,8 +133,5 @@ check-spec =
     scan-table-requires
     unfit-requires-5
     returns-5
-    entry-of-requires
-    draft-fit-requires
-    unfit-requires-6
-    returns-6
-    returns-7)
+    scan-draft-requires
+    returns-6)
