@@ -1,5 +1,5 @@
-// The pool of elements: where a condition starts, how many places are held, and what joining, planting and removing make
-// of it.
+// The pool of elements: where a condition starts, how many places are held, and what joining, planting and removing
+// make of it.
 use target::Element;
 use target::Entry;
 use target::Table;
