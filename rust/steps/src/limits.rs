@@ -96,7 +96,7 @@ impl Burst<'_> {
     }
 
     /// A condition of 64 elements, mostly with a 65th, and its b.
-    pub(crate) fn long(&mut self) {
+    pub fn long(&mut self) {
         self.make_room(1, ELEMENTS);
         let id = self.free_id();
         self.sure(b'n', id);
@@ -129,7 +129,7 @@ impl Burst<'_> {
 
     /// Conditions until all 128 places are held, elements for which none is left, and a way in
     /// which some are given back.
-    pub(crate) fn fill_pool(&mut self) {
+    pub fn fill_pool(&mut self) {
         let end = turn(&mut self.turns.full);
         // Now and then two conditions of 64 hold all.
         let two = end.is_multiple_of(3);
