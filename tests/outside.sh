@@ -95,6 +95,7 @@ check conditions_c conditions_c
 check wrapper tests_of sanirvoq
 check reference tests_of reference
 check steps tests_of steps
+[ ! -f rust/bench_stub/Cargo.toml ] || check bench_stub tests_of bench_stub
 check show_session python3 tests/show_session_test.py
 [ ! -x target/bin/program_main ] || check protocol_examples python3 tests/protocol_examples.py
 [ ! -x target/bin/calls_main ] || check calls_examples python3 tests/calls_examples.py

@@ -33,14 +33,13 @@ impl Element {
         })
     }
 
-    /// By how much it changes the depth.
+    /// By how much it changes the depth: one value more, the same, or one less. As a difference of
+    /// two tests it takes no branch.
     #[inline(always)]
     pub(crate) fn change(self) -> i32 {
-        match self {
-            Self::Pid(_) | Self::Literal(_) => 1,
-            Self::Indirect => 0,
-            _ => -1,
-        }
+        let pushes = matches!(self, Self::Pid(_) | Self::Literal(_));
+        let stays = matches!(self, Self::Indirect);
+        i32::from(pushes) - i32::from(!(pushes || stays))
     }
 }
 

@@ -1,7 +1,7 @@
 //! When a record is fit. The test keeps what later parts of a step need.
 
 use crate::condition::depth;
-use crate::record::{Refusal, Stub};
+use crate::record::{Process, Refusal, Stub};
 use crate::{ELEMENTS, ENTRIES, STOPPED, TRAP};
 
 /// What the test of a fit record found on its way.
@@ -23,13 +23,21 @@ impl Stub {
         self.scan(memory).ok_or(Refusal::Unfit)
     }
 
-    #[inline(always)]
+    /// A function of its own: inlined into each step it would leave few registers to either.
+    #[inline(never)]
     fn scan(&self, memory: &[u8]) -> Option<Scan> {
-        let current = self.current.is_none_or(|pid| self.listed(pid).is_some());
-        if !self.window_fits() || !self.processes_fit() || !current {
+        if !self.window_fits() || !self.processes_fit() || !self.current_fits() {
             return None;
         }
         self.scan_table(memory)
+    }
+
+    /// The current process is none or a listed pid.
+    #[inline(always)]
+    fn current_fits(&self) -> bool {
+        let Some(pid) = self.current else { return true };
+        let listed = |process: &Process| process.pid == pid;
+        self.processes.get(..self.count).is_some_and(|list| list.iter().any(listed))
     }
 
     /// The bounds on M and B.
@@ -44,14 +52,15 @@ impl Stub {
     #[inline(always)]
     pub(crate) fn processes_fit(&self) -> bool {
         let Some(list) = self.processes.get(..self.count) else { return false };
-        let mut fit = !list.is_empty();
         for (i, process) in list.iter().enumerate() {
-            fit &= process.pid != 0 && !(process.state == STOPPED && process.wanted);
-            for other in &list[..i] {
-                fit &= other.pid != process.pid;
+            if process.pid == 0 || (process.wanted && process.state == STOPPED) {
+                return false;
+            }
+            if list[..i].iter().any(|other| other.pid == process.pid) {
+                return false;
             }
         }
-        fit
+        !list.is_empty()
     }
 
     /// Sites hold traps, conditions are well formed and find places (the pool's own length bounds
