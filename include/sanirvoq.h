@@ -31,9 +31,9 @@ enum {
     SANIRVOQ_ENTRIES = 8,
     SANIRVOQ_ELEMENTS = 64, /* elements of one condition, at most */
     SANIRVOQ_PLACES = 128,  /* elements of all conditions together, at most */
-    SANIRVOQ_MESSAGE = 10, /* bytes of a request and of a reply */
-    SANIRVOQ_BLOCK = 136   /* bytes of a process's saved registers: 32 registers, status, pc, four bytes each,
-                            * high-order first */
+    SANIRVOQ_MESSAGE = 10,  /* bytes of a request and of a reply */
+    SANIRVOQ_BLOCK = 136    /* bytes of a process's saved registers: 32 registers, status, pc, four bytes each,
+                             * high-order first */
 };
 
 /* A breakpoint. `used` is 0 (free) or 1; `count` is how many elements its condition has, which stand in the record's
