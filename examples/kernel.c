@@ -13,7 +13,7 @@ enum { RUNNING = 4 }; /* a state byte */
 enum { LABEL = 32 };  /* bytes of a line's label */
 
 struct kernel {
-    struct sanirvoq_target target;
+    struct sanirvoq_record record;
     struct sanirvoq_lent lent;
 };
 
@@ -53,7 +53,7 @@ static uint32_t get_word(const uint8_t *bytes) {
 
 /* A process's block of the register area. This kernel keeps the registers there while the process runs, too. */
 static uint8_t *block_of(const struct kernel *kernel, uint32_t pid) {
-    const int is_first = pid == kernel->target.processes[0].pid;
+    const int is_first = pid == kernel->record.target.processes[0].pid;
     return kernel->lent.registers + (is_first ? 0 : SANIRVOQ_BLOCK);
 }
 
@@ -65,7 +65,7 @@ static void set_up(struct kernel *kernel) {
     for (int i = 0; i < SIZE; i++) {
         kernel->lent.memory[i] = (uint8_t)i;
     }
-    expect_accepted("setup", sanirvoq_setup(&kernel->target, kernel->lent, BASE, SIZE, pids, addresses, PROCESSES));
+    expect_accepted("setup", sanirvoq_setup(&kernel->record, kernel->lent, BASE, SIZE, pids, addresses, PROCESSES));
     for (int p = 0; p < PROCESSES; p++) {
         /* A register has 0x100 times its number, plus the pid. */
         for (uint32_t i = 1; i < 32; i++) {
@@ -126,7 +126,7 @@ static void ask(struct kernel *kernel, const char *label, uint8_t type, uint32_t
         memcpy(request + 5, rest, length);
     }
     const uint32_t result =
-        sanirvoq_request(&kernel->target, kernel->lent, request, sizeof request, reply, sizeof reply);
+        sanirvoq_request(&kernel->record, kernel->lent, request, sizeof request, reply, sizeof reply);
     expect_accepted(label, sanirvoq_number(result));
     print_label(label);
     print_bytes(request, sizeof request);
@@ -167,7 +167,7 @@ static void run_into_trap(struct kernel *kernel, uint32_t pid, uint32_t pc) {
     uint8_t block[SANIRVOQ_BLOCK];
     char label[LABEL];
     come_to(kernel, pid, pc, block);
-    const uint32_t result = sanirvoq_trap(&kernel->target, kernel->lent, pid, block, sizeof block);
+    const uint32_t result = sanirvoq_trap(&kernel->record, kernel->lent, pid, block, sizeof block);
     snprintf(label, sizeof label, "trap of %u at 0x%x", (unsigned)pid, (unsigned)pc);
     print_label(label);
     if (sanirvoq_number(result) != SANIRVOQ_ACCEPTED) {
@@ -183,7 +183,7 @@ static void about_to_run(struct kernel *kernel, uint32_t pid) {
     uint8_t block[SANIRVOQ_BLOCK];
     char label[LABEL];
     come_to(kernel, pid, BASE, block);
-    const uint32_t result = sanirvoq_schedule(&kernel->target, kernel->lent, pid, block, sizeof block);
+    const uint32_t result = sanirvoq_schedule(&kernel->record, kernel->lent, pid, block, sizeof block);
     expect_accepted("schedule", sanirvoq_number(result));
     snprintf(label, sizeof label, "schedule of %u", (unsigned)pid);
     print_label(label);
@@ -236,7 +236,7 @@ static void stop_other(struct kernel *kernel) {
     about_to_run(kernel, 5);
     ask_process(kernel, "Tstatus 5", TSTATUS, 5);
     printf("The kernel gives process 7 the state 4.\n");
-    expect_accepted("state", sanirvoq_state(&kernel->target, kernel->lent, 7, RUNNING));
+    expect_accepted("state", sanirvoq_state(&kernel->record, kernel->lent, 7, RUNNING));
     ask_process(kernel, "Tstatus 7", TSTATUS, 7);
 }
 
@@ -250,7 +250,7 @@ static void restart(struct kernel *kernel) {
     uint8_t reply[SANIRVOQ_MESSAGE];
     printf("The kernel begins the session anew. The last trap goes, what she wrote stays.\n");
     show_memory(kernel);
-    expect_accepted("restart", sanirvoq_restart(&kernel->target, kernel->lent, reply, sizeof reply));
+    expect_accepted("restart", sanirvoq_restart(&kernel->record, kernel->lent, reply, sizeof reply));
     print_label("restart");
     print_bytes(reply, sizeof reply);
     printf("  %.9s\n", (const char *)(reply + 1));

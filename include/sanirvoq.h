@@ -29,34 +29,28 @@ extern "C" {
 enum {
     SANIRVOQ_PROCESSES = 4,
     SANIRVOQ_ENTRIES = 8,
-    SANIRVOQ_ELEMENTS = 16,
-    SANIRVOQ_MESSAGE = 10, /* bytes of a request and of a reply */
-    SANIRVOQ_BLOCK = 136   /* bytes of a process's saved registers: 32 registers, status, pc, four bytes each,
-                            * high-order first */
+    SANIRVOQ_ELEMENTS = 64, /* elements of one condition, at most */
+    SANIRVOQ_PLACES = 128,  /* elements of all conditions together, at most */
+    SANIRVOQ_MESSAGE = 10,  /* bytes of a request and of a reply */
+    SANIRVOQ_BLOCK = 136    /* bytes of a process's saved registers: 32 registers, status, pc, four bytes each,
+                             * high-order first */
 };
 
-/* One element of a condition: a letter, and the value of `k` and `p`. */
-struct sanirvoq_element {
-    uint8_t letter;
-    uint32_t value;
-};
-
-/* A breakpoint. `used` is 0 (free) or 1; `plain` are the two bytes of the program under the trap. */
+/* A breakpoint. `used` is 0 (free) or 1; `count` is how many elements its condition has, which stand in the record's
+ * places; the first two of `plain` are the bytes of the program under the trap. */
 struct sanirvoq_entry {
     uint8_t used;
     uint8_t id;
-    uint8_t plain[2];
+    uint8_t count;
+    uint8_t plain[4];
     uint32_t site;
-    uint32_t count;
-    struct sanirvoq_element elements[SANIRVOQ_ELEMENTS];
 };
 
-/* The condition in hand. `active` is 0 or 1. */
+/* The condition in hand. `active` is 0 or 1; `count` is how many elements it has so far. */
 struct sanirvoq_draft {
     uint8_t active;
     uint8_t id;
-    uint32_t count;
-    struct sanirvoq_element elements[SANIRVOQ_ELEMENTS];
+    uint8_t count;
 };
 
 struct sanirvoq_table {
@@ -72,8 +66,8 @@ struct sanirvoq_process {
     uint8_t wanted;
 };
 
-/* The record: the window's address and size, the processes, the current process where `selected` is 1, the
- * breakpoints. */
+/* What the record has besides its places: the window's address and size, the processes, the current process where
+ * `selected` is 1, the breakpoints. */
 struct sanirvoq_target {
     uint32_t base;
     uint32_t size;
@@ -84,8 +78,41 @@ struct sanirvoq_target {
     struct sanirvoq_table table;
 };
 
-SANIRVOQ_ASSERT(sizeof(struct sanirvoq_target) == 1324, "the record's size");
-SANIRVOQ_ASSERT(offsetof(struct sanirvoq_target, table) == 68, "where the record's table is");
+/* The record. Place i is places[2 * i], the letter of an element, and places[2 * i + 1], the value of `k` and `p`, else
+ * 0. The elements of the used entries stand there one after the other in the order of the table, each entry's `count`
+ * of them, then those of the condition in hand; no entry says where its own begin, sanirvoq_first_place does. What the
+ * places after them hold is of no account. */
+struct sanirvoq_record {
+    struct sanirvoq_target target;
+    uint32_t places[2 * SANIRVOQ_PLACES];
+};
+
+SANIRVOQ_ASSERT(sizeof(struct sanirvoq_entry) == 12, "the size of a breakpoint");
+SANIRVOQ_ASSERT(offsetof(struct sanirvoq_entry, count) == 2, "where a breakpoint's count is");
+SANIRVOQ_ASSERT(offsetof(struct sanirvoq_entry, plain) == 3, "where a breakpoint's plain bytes are");
+SANIRVOQ_ASSERT(offsetof(struct sanirvoq_entry, site) == 8, "where a breakpoint's site is");
+SANIRVOQ_ASSERT(sizeof(struct sanirvoq_draft) == 3, "the size of the condition in hand");
+SANIRVOQ_ASSERT(sizeof(struct sanirvoq_table) == 100, "the table's size");
+SANIRVOQ_ASSERT(offsetof(struct sanirvoq_table, draft) == 96, "where the condition in hand is");
+SANIRVOQ_ASSERT(sizeof(struct sanirvoq_process) == 12, "the size of a process");
+SANIRVOQ_ASSERT(offsetof(struct sanirvoq_target, processes) == 12, "where the processes are");
+SANIRVOQ_ASSERT(offsetof(struct sanirvoq_target, selected) == 60, "where the mark of a current process is");
+SANIRVOQ_ASSERT(offsetof(struct sanirvoq_target, current) == 64, "where the current process is");
+SANIRVOQ_ASSERT(offsetof(struct sanirvoq_target, table) == 68, "where the table is");
+SANIRVOQ_ASSERT(sizeof(struct sanirvoq_target) == 168, "the size of what the record has besides its places");
+SANIRVOQ_ASSERT(offsetof(struct sanirvoq_record, places) == 168, "where the record's places are");
+SANIRVOQ_ASSERT(sizeof(struct sanirvoq_record) == 1192, "the record's size");
+
+/* The first place of an entry's elements; of those of the condition in hand where the index is SANIRVOQ_ENTRIES. In a
+ * record that is not fit the elements may lie past the last place. */
+static inline size_t sanirvoq_first_place(const struct sanirvoq_record *record, size_t index) {
+    size_t place = 0;
+    for (size_t i = 0; i < index && i < SANIRVOQ_ENTRIES; i++) {
+        const struct sanirvoq_entry *entry = &record->target.table.entries[i];
+        place += entry->used == 1 ? entry->count : 0;
+    }
+    return place;
+}
 
 /* ---- results ---- */
 
@@ -129,12 +156,12 @@ static inline uint8_t sanirvoq_second(uint32_t result) { return (uint8_t)(result
  *
  * Each takes the record, the memory window, the register area (136 bytes for each process), a pid, a byte, an input
  * and a reply buffer, and says below which of the last four it uses. What it does not use it leaves as it is. */
-typedef uint32_t sanirvoq_step(struct sanirvoq_target *target, uint8_t *memory, size_t memory_length,
+typedef uint32_t sanirvoq_step(struct sanirvoq_record *record, uint8_t *memory, size_t memory_length,
                                uint8_t *registers, size_t registers_length, uint32_t pid, uint8_t value,
                                const uint8_t *input, size_t input_length, uint8_t *reply, size_t reply_length);
 
-/* Takes base, size, count and the pids and addresses of the first count processes from the record, and makes the rest
- * of it. */
+/* Takes base, size, count and the pids and addresses of the first count processes from the record's target, and makes
+ * the rest of that. The places, of which none is held then, stay as they are. */
 sanirvoq_step sanirvoq_step_setup;
 /* Uses input (a request of ten bytes) and reply (ten bytes). Its answer may be 2 with the plain bytes. */
 sanirvoq_step sanirvoq_step_request;
@@ -158,11 +185,12 @@ struct sanirvoq_lent {
 };
 
 /* A setup: a window of size bytes at base, and count processes with their pids and Proc addresses. Answers 0, 1 or 2;
- * unless it is 0 the record is empty afterwards. More than four processes are number 1. */
-static inline uint8_t sanirvoq_setup(struct sanirvoq_target *target, struct sanirvoq_lent lent, uint32_t base,
+ * unless it is 0 the record is empty afterwards. More than four processes are number 1. The places need no value. */
+static inline uint8_t sanirvoq_setup(struct sanirvoq_record *record, struct sanirvoq_lent lent, uint32_t base,
                                      uint32_t size, const uint32_t *pids, const uint32_t *addresses,
                                      uint32_t count) {
     uint8_t none = 0;
+    struct sanirvoq_target *target = &record->target;
     memset(target, 0, sizeof *target);
     target->base = base;
     target->size = size;
@@ -171,50 +199,50 @@ static inline uint8_t sanirvoq_setup(struct sanirvoq_target *target, struct sani
         target->processes[i].pid = pids[i];
         target->processes[i].address = addresses[i];
     }
-    return sanirvoq_number(sanirvoq_step_setup(target, lent.memory, lent.memory_length, lent.registers,
+    return sanirvoq_number(sanirvoq_step_setup(record, lent.memory, lent.memory_length, lent.registers,
                                                lent.registers_length, 0, 0, &none, 0, &none, 0));
 }
 
 /* A request of ten bytes, answered in ten. Answers a result: numbers 0, 2 and 3, and for the kernel, beside the reply
  * that it sends to the host, whether a process goes on at a breakpoint: 2 with the plain bytes to be run elsewhere, for
  * the process that the request names; else 0. */
-static inline uint32_t sanirvoq_request(struct sanirvoq_target *target, struct sanirvoq_lent lent,
+static inline uint32_t sanirvoq_request(struct sanirvoq_record *record, struct sanirvoq_lent lent,
                                         const uint8_t *request, size_t request_length, uint8_t *reply,
                                         size_t reply_length) {
-    return sanirvoq_step_request(target, lent.memory, lent.memory_length, lent.registers, lent.registers_length, 0, 0,
+    return sanirvoq_step_request(record, lent.memory, lent.memory_length, lent.registers, lent.registers_length, 0, 0,
                                  request, request_length, reply, reply_length);
 }
 
 /* A process ran into a trap, with these registers. Answers a result: numbers 0, 2 to 6, and Stop or Pass. */
-static inline uint32_t sanirvoq_trap(struct sanirvoq_target *target, struct sanirvoq_lent lent, uint32_t pid,
+static inline uint32_t sanirvoq_trap(struct sanirvoq_record *record, struct sanirvoq_lent lent, uint32_t pid,
                                      const uint8_t *block, size_t block_length) {
     uint8_t none = 0;
-    return sanirvoq_step_trap(target, lent.memory, lent.memory_length, lent.registers, lent.registers_length, pid, 0,
+    return sanirvoq_step_trap(record, lent.memory, lent.memory_length, lent.registers, lent.registers_length, pid, 0,
                               block, block_length, &none, 0);
 }
 
 /* The kernel is about to run a process, with these registers. Answers a result: numbers 0, 2 to 4, and whether it is
  * to stop. */
-static inline uint32_t sanirvoq_schedule(struct sanirvoq_target *target, struct sanirvoq_lent lent, uint32_t pid,
+static inline uint32_t sanirvoq_schedule(struct sanirvoq_record *record, struct sanirvoq_lent lent, uint32_t pid,
                                          const uint8_t *block, size_t block_length) {
     uint8_t none = 0;
-    return sanirvoq_step_schedule(target, lent.memory, lent.memory_length, lent.registers, lent.registers_length, pid,
+    return sanirvoq_step_schedule(record, lent.memory, lent.memory_length, lent.registers, lent.registers_length, pid,
                                   0, block, block_length, &none, 0);
 }
 
 /* The kernel gives a process another state. Answers 0, 2 to 5. */
-static inline uint8_t sanirvoq_state(struct sanirvoq_target *target, struct sanirvoq_lent lent, uint32_t pid,
+static inline uint8_t sanirvoq_state(struct sanirvoq_record *record, struct sanirvoq_lent lent, uint32_t pid,
                                      uint8_t value) {
     uint8_t none = 0;
-    return sanirvoq_number(sanirvoq_step_state(target, lent.memory, lent.memory_length, lent.registers,
+    return sanirvoq_number(sanirvoq_step_state(record, lent.memory, lent.memory_length, lent.registers,
                                                lent.registers_length, pid, value, &none, 0, &none, 0));
 }
 
 /* The debug session begins anew: every trap's plain bytes go back. Answers 0, 2 or 3; the reply is Rerr reset. */
-static inline uint8_t sanirvoq_restart(struct sanirvoq_target *target, struct sanirvoq_lent lent, uint8_t *reply,
+static inline uint8_t sanirvoq_restart(struct sanirvoq_record *record, struct sanirvoq_lent lent, uint8_t *reply,
                                        size_t reply_length) {
     uint8_t none = 0;
-    return sanirvoq_number(sanirvoq_step_restart(target, lent.memory, lent.memory_length, lent.registers,
+    return sanirvoq_number(sanirvoq_step_restart(record, lent.memory, lent.memory_length, lent.registers,
                                                  lent.registers_length, 0, 0, &none, 0, reply, reply_length));
 }
 

@@ -71,6 +71,10 @@ texts_c() {
     c11 -O2 -Iinclude tests/text_packets.c "$library" -o "$logs/texts_c" && under_valgrind "$logs/texts_c"
 }
 
+conditions_c() {
+    c11 -O2 -Iinclude tests/conditions.c "$library" -o "$logs/conditions_c" && under_valgrind "$logs/conditions_c"
+}
+
 example_rust() {
     crate run sanirvoq --example kernel > "$logs/kernel_rust.txt" &&
         diff examples/kernel.txt "$logs/kernel_rust.txt"
@@ -87,9 +91,11 @@ check example_rust example_rust
 check examples_equal diff "$logs/kernel_c.txt" "$logs/kernel_rust.txt"
 check images_c images_c
 check texts_c texts_c
+check conditions_c conditions_c
 check wrapper tests_of sanirvoq
 check reference tests_of reference
 check steps tests_of steps
+[ ! -f rust/bench_stub/Cargo.toml ] || check bench_stub tests_of bench_stub
 check show_session python3 tests/show_session_test.py
 [ ! -x target/bin/program_main ] || check protocol_examples python3 tests/protocol_examples.py
 [ ! -x target/bin/calls_main ] || check calls_examples python3 tests/calls_examples.py

@@ -526,19 +526,117 @@ def lacking_values(s):
 
 
 def seventeenth(s):
+    """01's limit was 16; since request Seven of 02 a 17th element is one like any other."""
     s.fresh()
     for letter in "kp*&=!ao":
+        lacks = letter in "&=!ao"
         s.ask(cond("n", 1), TAKEN, "n 1")
         for _ in range(8):
             s.ask(cond("k", 5), TAKEN, "two elements")
             s.ask(cond("a"), TAKEN, "of sixteen")
-        s.ask(cond(letter), BAD_COUNT, f"{letter}: a 17th element")
-        s.ask(cond("b", 4120), INVAL, "nothing is in hand")
+        s.ask(cond(letter), INVAL if lacks else TAKEN, f"{letter}: a 17th element")
+        s.ask(cond("b", 4120), TAKEN if letter == "*" else INVAL, "one value or more, or nothing in hand")
+        if letter == "*":
+            s.ask(cond("d", 1), TAKEN, "the breakpoint of 17 elements goes")
     s.plant(1, [("k", 5), "a"] * 8, 4120, "sixteen elements")
     s.trap(7, 4120, passed("1819"), "not for 7")
     s.trap(5, 4120, stop(1), "for 5")
     s.plant(2, [("p", i) for i in range(8)] + ["o"] * 8, 4122, "a depth of nine")
     s.trap(7, 4122, stop(2), "true")
+
+
+# ---- Request Seven of 02: 64 elements in a condition, 128 places for all of them. ----
+
+LONGEST = [("k", 5), "a"] * 32  # true for 5, evaluated to its end
+
+
+def in_hand(s, ident, elements, comment):
+    """A condition that stays in hand."""
+    s.ask(cond("n", ident), TAKEN, f"{comment}: n {ident}")
+    for number, element in enumerate(elements, 1):
+        s.ask(cond(*element), TAKEN, f"{comment}: element {number}")
+
+
+def sixty_fifth(s):
+    s.fresh()
+    for letter in "kp*&=!ao":
+        in_hand(s, 1, LONGEST, "64 elements")
+        s.ask(cond(letter), BAD_COUNT, f"{letter}: a 65th element, places are left")
+        s.ask(cond("b", 4120), INVAL, "the condition in hand is dropped")
+    in_hand(s, 1, [("p", i) for i in range(64)], "a depth of 65")
+    s.ask(cond("a"), BAD_COUNT, "a 65th that has its values")
+    s.plant(1, LONGEST, 4120, "64 elements")
+    s.trap(7, 4120, passed("1819"), "not for 7")
+    s.trap(5, 4120, stop(1), "for 5")
+    s.plant(2, [("p", i) for i in range(32)] + ["o"] * 32, 4122, "a depth of 33")
+    s.trap(7, 4122, stop(2), "true")
+
+
+def all_places(s):
+    s.fresh()
+    s.plant(1, LONGEST, 4104, "64 of 128 places")
+    s.plant(2, ["*"] * 64, 4106, "all 128 places")
+    for letter in "kp*&=!ao":
+        s.ask(cond(letter), INVAL, f"{letter}: nothing in hand comes first")
+        s.ask(cond("n", 3), TAKEN, "n needs no place")
+        s.ask(cond(letter), BAD_COUNT, f"{letter}: no place is left, whatever values are")
+        s.ask(cond("b", 4120), INVAL, "the condition in hand is dropped")
+    s.plant(3, [], 4108, "neither does b")
+    s.trap(7, 4106, stop(2), "7 stops at the second")
+    s.trap(5, 4104, stop(1), "5 at the first")
+
+
+def places_by_d(s):
+    """Goes on from all_places."""
+    s.ask(cond("n", 4), TAKEN, "n 4")
+    s.ask(cond("d", 4), INVAL, "d of no breakpoint gives nothing back, and drops nothing")
+    s.ask(cond("d", 1), TAKEN, "d 1 gives 64 back")
+    for number, element in enumerate(LONGEST, 1):
+        s.ask(cond(*element), TAKEN, f"place {64 + number}")
+    s.ask(cond("p", 1), BAD_COUNT, "a 65th element, and no place is left")
+    s.ask(cond("b", 4104), INVAL, "the condition in hand is dropped")
+    s.plant(4, LONGEST, 4110, "its places came back")
+    s.start(5, "", "start 5: no breakpoint is at 4,104 any more")
+    s.trap(5, 4110, stop(4), "the new one stops 5")
+    s.start(7, "0a0b", "start 7 at the second, whose elements were moved")
+    s.trap(7, 4106, stop(2), "and which stops it again")
+
+
+def places_in_hand(s):
+    s.fresh()
+    s.plant(1, LONGEST, 4104, "64 of 128 places")
+    in_hand(s, 2, LONGEST[:62], "62 more in hand")
+    in_hand(s, 3, LONGEST, "n gives them back, 64 others take them")
+    s.ask(cond("n", 3), TAKEN, "and again, all 128 held before")
+    in_hand(s, 3, LONGEST[:63], "63 in hand")
+    s.ask(cond("z"), INVAL, "a refusal drops them")
+    s.plant(3, LONGEST[:60], 4106, "124 places by breakpoints")
+    in_hand(s, 4, [("p", 1), ("p", 2), "o", "a"], "the last four in hand")
+    s.ask(cond("*"), BAD_COUNT, "the fifth finds no place")
+    s.plant(4, [("p", 1), ("p", 2), "o", "a"], 4108, "the last four")
+    for ident, site in ((1, 4104), (3, 4106), (4, 4108)):
+        s.trap(5, site, stop(ident), "each has its own elements")
+        s.start(5, f"{site - B:02x}{site - B + 1:02x}", "and goes on")
+    s.ask(cond("d", 3), TAKEN, "60 places in the middle go back")
+    s.trap(7, 4104, passed("0809"), "the first has its own elements still")
+    s.trap(7, 4108, stop(4), "the last too")
+    s.plant(5, LONGEST[:58] + ["*", "*"], 4112, "60 others, at the lowest free entry")
+    s.trap(5, 4108, stop(4), "the last has its elements still")
+    s.ask(cond("n", 6), TAKEN, "n 6")
+    s.ask(cond("k", 5), BAD_COUNT, "all places are held again")
+
+
+def places_by_restart(s):
+    """Goes on from places_in_hand."""
+    s.ask(cond("d", 4), TAKEN, "four places go back")
+    in_hand(s, 6, [("p", 1)] * 4, "and are in hand, so all are held")
+    s.restart("a restart gives all back")
+    s.ask(cond("p", 1), INVAL, "nothing is in hand")
+    s.plant(1, LONGEST, 4104, "64 of 128 places")
+    in_hand(s, 2, LONGEST, "128 of 128 places")
+    s.ask(cond("b", 4106), TAKEN, "set with all places held")
+    s.trap(7, 4106, passed("0a0b"), "not for 7")
+    s.trap(5, 4106, stop(2), "for 5")
 
 
 def full_table(s):
@@ -840,7 +938,8 @@ SECTIONS = (
     types, counts, addresses, pids, states,
     registers_refused, registers_read, registers_written, registers_of_two,
     three_sites, trap_alike, window_ends,
-    letters, nothing_in_hand, idents, sites, lacking_values, seventeenth, full_table,
+    letters, nothing_in_hand, idents, sites, lacking_values, seventeenth,
+    sixty_fifth, all_places, places_by_d, places_in_hand, places_by_restart, full_table,
     primaries, operators, stars, stars_over_writes,
     stop_and_start, marks, second_stops, continues_beside, continues_written, continues_scheduled,
     continues_not_stopped, numbers, restarts,

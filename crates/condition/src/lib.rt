@@ -1,5 +1,5 @@
-// Conditions in Reverse Polish: their depth, whether an element may join, and their truth over plain memory. A condition
-// is `count` elements of the pool from the place `from` on.
+// Conditions in Reverse Polish: their depth, whether an element may join, and their truth over plain memory. A
+// condition is `count` elements of the pool from the place `from` on.
 use target::Element;
 use target::Entry;
 use target::Table;
@@ -179,8 +179,8 @@ fn stack_without(letter: u32, at: usize) -> usize
     }
 }
 
-// The truth of a condition over plain memory, for the trapping process. The stack begins with one value, the truth of the
-// final `b`.
+// The truth of a condition over plain memory, for the trapping process. The stack begins with one value, the truth of
+// the final `b`.
 pub fn evaluate(
     mem: &[u8],
     base: u32,

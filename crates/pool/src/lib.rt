@@ -1,5 +1,5 @@
-// The pool of elements: where a condition starts, how many places are held, and what joining, planting and removing make
-// of it.
+// The pool of elements: where a condition starts, how many places are held, and what joining, planting and removing
+// make of it.
 use target::Element;
 use target::Entry;
 use target::Table;
@@ -64,6 +64,7 @@ pub fn join(
 )
     requires { ⌜ heldBy entries count < maxPlaces ⌝ }
     ensures { λ _. ⌜ elementsOf (now (places .exit)) ≡ joined entries count e (elementsOf (now (places .entry))) ⌝ }
+    ensures { λ _. ⌜ length (elementsOf (now (places .entry))) ≡ maxPlaces ⌝ }
 {
     let words = &mut places[..];
     let at = 2 * held(entries, count);
@@ -80,6 +81,7 @@ pub fn plant(
 )
     requires { ⌜ (k < maxEntries) × (heldBy entries count ≤ maxPlaces) ⌝ }
     ensures { λ _. ⌜ elementsOf (now (places .exit)) ≡ planted entries count k (elementsOf (now (places .entry))) ⌝ }
+    ensures { λ _. ⌜ length (elementsOf (now (places .entry))) ≡ maxPlaces ⌝ }
 {
     let from = start_of(entries, k);
     let mid = start_of(entries, Table::ENTRIES);
@@ -97,6 +99,7 @@ pub fn remove(
 )
     requires { ⌜ (k < maxEntries) × (heldBy entries count ≤ maxPlaces) ⌝ }
     ensures { λ _. ⌜ elementsOf (now (places .exit)) ≡ removed entries count k (elementsOf (now (places .entry))) ⌝ }
+    ensures { λ _. ⌜ length (elementsOf (now (places .entry))) ≡ maxPlaces ⌝ }
 {
     let from = start_of(entries, k);
     let mid = start_of(entries, k + 1);

@@ -1,33 +1,38 @@
 -- Laws of the tests of Tcondbreak. Assumes nothing.
 use mathlib.Core.Path.{_≡_, sym, ap, _∙_}
-use mathlib.Core.Bool.{Bool, true, false}
+use mathlib.Core.Bool.{true}
 use mathlib.Core.List.{List}
 use Prim.Native.Nat.{ℕ, _+_, _-_, _≤_}
 use native.Mathlib.Omega.{arith}
-use borrow.Author.Tests.{eq-eqb, ne-eqb, lt-ltb, le-leb, lt-leb}
+use borrow.Author.Tests.{eq-eqb, ne-eqb, le-leb, lt-leb}
+use mir.Val.{Val}
+use denote.Laws.{Is}
 use lib.Dec.{eqb, leb}
 use lib.ListN.{length}
 use Rattle.common.specs.First.{firstOf}
-use Rattle.common.proofs.Cases.{on-less, on-same}
+use Rattle.common.proofs.Cases.{on-less}
 use Rattle.common.proofs.First.{first-within}
-use Rattle.common.proofs.Same.{true-or-false}
-use Rattle.condition.specs.Add.{roomFor, addedBy, addOf}
-use Rattle.condition.specs.Depth.{depthOf, depthAfter}
+use Rattle.condition.specs.Add.{roomFor}
 use Rattle.condition.specs.declared.Room.{Room}
-use Rattle.condition.specs.declared.Room.the-variants.{Fits, Full, Short}
 use Rattle.target_fit.specs.Arrays.{idsOf}
-use Rattle.target_fit.specs.Fit.{entryOf}
+use Rattle.target_fit.specs.Fit.{entryOf, heldOf}
 use Rattle.target_fit.specs.declared.Scan.{Scan}
 use Rattle.memory.specs.Place.{isSite}
 use Rattle.rules.specs.Breakpoint.{isAt, breakpointAt}
-use Rattle.step_effect.specs.Change.{grown}
 use Rattle.rules.specs.Condition.{inHand, joined, addElement, siteFree}
 use Rattle.rules.proofs.FitFacts.{parts}
 use Rattle.rules.specs.Outcome.{World}
-use Rattle.target.specs.declared.Draft.{Draft}
 use Rattle.target.specs.declared.Element.{Element}
-use Rattle.target.specs.declared.Entry.{Entry}
-use Rattle.target.specs.declared.Target.{Target}
+use Rattle.target.specs.View.{Entry, Target, viewOf}
+use Rattle.target.specs.declared.Target.{Target as StoredTarget}
+use Rattle.target.proofs.Target as target
+use Rattle.breakpoint.proofs.Laws.{ready-good}
+use Rattle.condition.proofs.Depth.{depth-most}
+use Rattle.memory.specs.Head.{house}
+use Rattle.rules.proofs.FitFacts.{facts-of}
+use Rattle.rules.proofs.KeptDraft.{Hand, hand-of}
+use Rattle.step_effect.specs.Ready.{Ready}
+use Rattle.request_condbreak.specs.Needs.{Joinable}
 
 -- ---- the breakpoint with an id is the one that the scan's ids name
 
@@ -48,27 +53,11 @@ at-end es address h =
 
 -- ---- the requests
 
--- an element joins, or does not, as what is tried with it says
+-- an element joins, or does not, as the room for it says
 pub add-joined : (w : World) (e : Element) (r : Room) → (w .target .table .draft .active ≡ 0 → ⊥)
-    → addOf (w .target .table .draft) e .room ≡ r → joined w (addOf (w .target .table .draft) e) r ≡ addElement w e
+    → roomFor (w .target .table .draft .elements) (heldOf (w .target .table)) e ≡ r → joined w e r ≡ addElement w e
 unfolding addElement inHand
 add-joined w e r h q = rw (ne-eqb (w .target .table .draft .active) 0 h, q)
-
-fits : Room → Bool
-fits Fits = true
-fits Full = false
-fits Short = false
-
--- the condition in hand with an element that fits is the one grown by it
-pub fits-grown : (d : Draft) (e : Element) → addOf d e .room ≡ Fits → grown d e ≡ addOf d e .draft
-unfolding addOf addedBy roomFor grown fits
-fits-grown d e q =
-    let after = depthAfter (depthOf (d .elements) (d .count)) (e .letter) (e .value) in
-    on-less (d .count) 16
-    (λ h. on-same after 0
-    (λ z. true-or-false (ap fits (rw (lt-leb 16 (d .count) h, eq-eqb after 0 z) at q)))
-    (λ n. rw (lt-ltb (d .count) 16 h, lt-leb 16 (d .count) h, ne-eqb after 0 n)))
-    (λ h. true-or-false (ap fits (rw (le-leb 16 (d .count) h) at q)))
 
 -- a site for a breakpoint lies in the window
 pub site-low : (w : World) (val : ℕ) → siteFree w val ≡ true → w .target .base ≤ val
@@ -78,3 +67,25 @@ site-low w val e = search parts depth 8
 pub site-high : (w : World) (val : ℕ) → siteFree w val ≡ true → val - w .target .base + 2 ≤ w .target .size
 unfolding siteFree isSite
 site-high w val e = search parts depth 8
+
+-- ---- what the requests need, of a record that is ready
+
+module _ (t : StoredTarget) (words : List ℕ) (vs : List Val) (h : Is target.the-row t vs) (s : Scan) (mem : List ℕ)
+    (r : Ready house (viewOf t words) s mem) where
+  pub ready-few : heldOf (viewOf t words .table) ≤ 128
+  ready-few = facts-of (viewOf t words) mem (ready-good t words vs h s mem r) .held
+
+  -- what is in hand, as facts
+  pub ready-hand : (t .table .draft .active ≡ 0 → ⊥) → Hand (viewOf t words .table .draft) (viewOf t words .table .entries)
+  ready-hand n =
+      hand-of (viewOf t words .table .draft) (viewOf t words .table .entries)
+      (facts-of (viewOf t words) mem (ready-good t words vs h s mem r) .draft) (ne-eqb (t .table .draft .active) 0 n)
+
+  pub ready-joinable : Joinable (viewOf t words .table) s
+  ready-joinable = record {
+    held = r .held;
+    few = ready-few;
+    depth = r .depth;
+    shallow = omega (arith, r .depth, depth-most (viewOf t words .table .draft .elements));
+    whole = λ n. ready-hand n .whole;
+  }

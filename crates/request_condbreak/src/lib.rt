@@ -18,7 +18,7 @@ ghost use lib.ListN.{replicate};
 ghost use Rattle.memory.specs.Head.{house};
 ghost use Rattle.target.specs.Limits.{maxPlain};
 ghost use Rattle.target.specs.declared.Target.{Target};
-ghost use Rattle.target.specs.View.{elementsOf, draftSize, viewOf, viewTable};
+ghost use Rattle.target.specs.View.{draftSize, viewOf};
 ghost use Rattle.rules.specs.Outcome.{world, replied};
 ghost use Rattle.step_effect.specs.Effect.{effectOf, requestOutcome};
 ghost use Rattle.step_effect.specs.Ready.{Ready};
@@ -52,8 +52,8 @@ pub fn fail(reason: Reason) -> Effect
 }
 
 // `n`: begins a condition.
-fn begin(s: Scan, val: u32) -> Effect
-    ensures { λ r. ⌜ ((t : Target) (words mem regs : List ℕ) → s .ids ≡ idsOf (viewOf t words .table .entries)
+fn begin(t: Target, s: Scan, val: u32) -> Effect
+    ensures { λ r. ⌜ ((words mem regs : List ℕ) → s .ids ≡ idsOf (viewOf t words .table .entries)
         → requestOutcome t r words mem regs ≡ beginCondition (world (viewOf t words) mem regs) val) ⌝ }
 {
     if Entry::LAST_ID < val {
@@ -63,7 +63,7 @@ fn begin(s: Scan, val: u32) -> Effect
     if target_scan::entry_of(&ids, val) < Table::ENTRIES {
         return fail(Reason::Inval);
     }
-    if target_scan::entry_of(&ids, Scan::FREE_ID) == Table::ENTRIES {
+    if t.table.first_free() == Table::ENTRIES {
         return fail(Reason::Count);
     }
     let id = val as u8;
@@ -71,13 +71,13 @@ fn begin(s: Scan, val: u32) -> Effect
 }
 
 // An element joins the condition in hand, at the first place that is not held.
-fn add(u: Table, s: Scan, places: &mut [u32; Table::WORDS], letter: u8, value: u32) -> Effect
-    requires { ⌜ Joinable (viewTable u (elementsOf (now places))) s ⌝ }
-    ensures { λ r. ⌜ ((t : Target) (mem regs : List ℕ) → t .table ≡ u
-        → requestOutcome t r (now (places .exit)) mem regs
+fn add(t: Target, s: Scan, places: &mut [u32; Table::WORDS], letter: u8, value: u32) -> Effect
+    requires { ⌜ Joinable (viewOf t (now places) .table) s ⌝ }
+    ensures { λ r. ⌜ ((mem regs : List ℕ) → requestOutcome t r (now (places .exit)) mem regs
         ≡ addElement (world (viewOf t (now (places .entry))) mem regs) (record { letter = letter; value = value })) ⌝ }
 {
-    let d = u.draft;
+    let table = t.table;
+    let d = table.draft;
     if d.active == 0 {
         return fail(Reason::Inval);
     }
@@ -85,7 +85,7 @@ fn add(u: Table, s: Scan, places: &mut [u32; Table::WORDS], letter: u8, value: u
     let room = condition::room_for(s.depth, d.count as usize, s.held, code, value);
     match room {
         Room::Fits => {
-            let entries = u.entries;
+            let entries = table.entries;
             pool::join(places, entries, d.count, Element { letter: code, value });
             done(Change::Hand(d.active, d.id, d.count + 1))
         }
@@ -195,12 +195,9 @@ pub fn condbreak(
         ≡ condbreakOf house (world (viewOf t (now (places .entry))) (now (mem .entry)) regs) val op) ⌝ }
 {
     match op {
-        b'n' => begin(s, val),
+        b'n' => begin(t, s, val),
         b'b' => set(t, s, places, mem, val),
         b'd' => delete(t, s, places, mem, val),
-        _ => {
-            let table = t.table;
-            add(table, s, places, op, val)
-        }
+        _ => add(t, s, places, op, val),
     }
 }

@@ -1,6 +1,6 @@
 -- What a step changes in the record of the code: the record after it, and which parts of the record it is about.
 use Prim.Native.Nat.{ℕ}
-use mathlib.Core.Bool.{true, false}
+use mathlib.Core.Bool.{Bool, true, false}
 use mathlib.Core.List.{List, [], _∷_, _++_, map}
 use lib.ListN.{getD, take, drop, set, replicate}
 use Rattle.target.specs.Fresh.{freeEntry, noDraft, newTable}
@@ -15,7 +15,6 @@ use Rattle.rules.specs.Event.{restarted}
 use Rattle.step_effect.specs.declared.Change.{Change}
 use Rattle.step_effect.specs.declared.Change.the-variants.{Same, Plain, Current, State, Hand, Plant}
 use Rattle.step_effect.specs.declared.Change.the-variants.{Remove, Restart}
-use Rattle.step_effect.specs.declared.Touched.{Touched}
 
 -- ---- the record with one part changed
 
@@ -97,14 +96,34 @@ entriesAfter u c plain = stored (holding 0 [] 0 0 u) c plain .table .entries
 unfoldable pub draftAfter : Draft → Change → Draft
 draftAfter d c = stored (holding 0 [] 0 0 (record { entries = []; draft = d })) c [] .table .draft
 
--- ---- which parts a change is about
+-- ---- which parts a change is about: what stands beside the table, its entries, the condition in hand
 
-unfoldable pub touchedOf : Change → Touched
-touchedOf Same = record { beside = false; entries = false; draft = false }
-touchedOf Plain = record { beside = false; entries = true; draft = false }
-touchedOf (Current pid) = record { beside = true; entries = false; draft = false }
-touchedOf (State i state wanted) = record { beside = true; entries = false; draft = false }
-touchedOf (Hand active id count) = record { beside = false; entries = false; draft = true }
-touchedOf (Plant k site b0 b1) = record { beside = false; entries = true; draft = true }
-touchedOf (Remove k) = record { beside = false; entries = true; draft = false }
-touchedOf Restart = record { beside = true; entries = true; draft = true }
+unfoldable pub inBeside : Change → Bool
+inBeside Same = false
+inBeside Plain = false
+inBeside (Current pid) = true
+inBeside (State i state wanted) = true
+inBeside (Hand active id count) = false
+inBeside (Plant k site b0 b1) = false
+inBeside (Remove k) = false
+inBeside Restart = true
+
+unfoldable pub inEntries : Change → Bool
+inEntries Same = false
+inEntries Plain = true
+inEntries (Current pid) = false
+inEntries (State i state wanted) = false
+inEntries (Hand active id count) = false
+inEntries (Plant k site b0 b1) = true
+inEntries (Remove k) = true
+inEntries Restart = true
+
+unfoldable pub inDraft : Change → Bool
+inDraft Same = false
+inDraft Plain = false
+inDraft (Current pid) = false
+inDraft (State i state wanted) = false
+inDraft (Hand active id count) = true
+inDraft (Plant k site b0 b1) = true
+inDraft (Remove k) = false
+inDraft Restart = true

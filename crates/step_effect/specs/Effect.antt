@@ -5,7 +5,7 @@ use Rattle.rules.specs.Outcome.{world, Outcome, outcome}
 use Rattle.rules.specs.declared.Answer.{Answer}
 use Rattle.target.specs.declared.Target.{Target}
 use Rattle.target.specs.View.{viewOf}
-use Rattle.step_effect.specs.Change.{stored, touchedOf}
+use Rattle.step_effect.specs.Change.{stored}
 use Rattle.step_effect.specs.declared.Change.{Change}
 use Rattle.step_effect.specs.declared.Effect.{Effect}
 
@@ -16,9 +16,6 @@ effectOf number answer change plain reply = record {
   change = change;
   plain = plain;
   reply = reply;
-  beside = touchedOf change .beside;
-  entries = touchedOf change .entries;
-  draft = touchedOf change .draft;
 }
 
 -- the number, the answer and the record that is left, with the pool and the buffers as they are then

@@ -6,7 +6,6 @@ use target::Target;
 ghost use mathlib.Core.Path.{_≡_};
 ghost use lib.ListN.{replicate};
 ghost use Rattle.target.specs.Limits.{maxPlain};
-ghost use Rattle.step_effect.specs.Change.{touchedOf};
 ghost use Rattle.step_effect.specs.Effect.{effectOf};
 ghost use Rattle.step_effect.specs.declared.Change.the-variants as change;
 
@@ -38,52 +37,13 @@ pub enum Change {
 }
 
 // The number and the answer of a step, with what it changes in the record; for a change of the entries' plain bytes,
-// those bytes; and the reply, where it has one. The last three say which parts of the record change: what stands beside
-// the table, its entries, the condition in hand.
+// those bytes; and the reply, where it has one.
 pub struct Effect {
     pub number: u8,
     pub answer: Answer,
     pub change: Change,
     pub plain: [u8; Table::PLAIN],
     pub reply: [u8; 10],
-    pub beside: bool,
-    pub entries: bool,
-    pub draft: bool,
-}
-
-// The parts of the record that a change is about: what stands beside the table, its entries, the condition in hand.
-pub struct Touched {
-    pub beside: bool,
-    pub entries: bool,
-    pub draft: bool,
-}
-
-impl Touched {
-    fn of(beside: bool, entries: bool, draft: bool) -> Touched
-        ensures { λ r. ⌜ r ≡ record { beside = beside; entries = entries; draft = draft } ⌝ }
-    {
-        Touched {
-            beside,
-            entries,
-            draft,
-        }
-    }
-}
-
-// The flags stand in the order of the fields.
-fn touched_by(c: Change) -> Touched
-    ensures { λ r. ⌜ r ≡ touchedOf c ⌝ }
-{
-    match c {
-        Change::Same => Touched::of(false, false, false),
-        Change::Plain => Touched::of(false, true, false),
-        Change::Current(_) => Touched::of(true, false, false),
-        Change::State(_, _, _) => Touched::of(true, false, false),
-        Change::Hand(_, _, _) => Touched::of(false, false, true),
-        Change::Plant(_, _, _, _) => Touched::of(false, true, true),
-        Change::Remove(_) => Touched::of(false, true, false),
-        Change::Restart => Touched::of(true, true, true),
-    }
 }
 
 impl Effect {
@@ -96,16 +56,12 @@ impl Effect {
     ) -> Effect
         ensures { λ r. ⌜ r ≡ effectOf number answer change plain reply ⌝ }
     {
-        let parts = touched_by(change);
         Effect {
             number,
             answer,
             change,
             plain: plain,
             reply: reply,
-            beside: parts.beside,
-            entries: parts.entries,
-            draft: parts.draft,
         }
     }
 

@@ -1,6 +1,6 @@
 -- Laws of what a change makes of each part of the record. Assumes nothing.
 use mathlib.Core.Path.{_≡_, refl, sym, ap, _∙_}
-use mathlib.Core.Bool.{true}
+use mathlib.Core.Bool.{true, false}
 use mathlib.Core.List.{List, [], _∷_, _++_, map}
 use Prim.Native.Nat.{ℕ, zero, suc, _+_, _<_, _≤_}
 use native.Mathlib.Nat.{not-suc-le-zero, le-of-suc-le-suc}
@@ -16,6 +16,7 @@ use Rattle.target_fit.specs.Fit.{stopped, processAt}
 use Rattle.rules.specs.Event.{restarted}
 use Rattle.rules.specs.Record.{ready, isStopped, withState}
 use Rattle.step_effect.specs.Change.{stored, processesAfter, selectedAfter, currentAfter, entriesAfter, draftAfter}
+use Rattle.step_effect.specs.Change.{inBeside, inEntries, inDraft}
 use Rattle.step_effect.specs.declared.Change.{Change}
 use Rattle.step_effect.specs.declared.Change.the-variants.{Same, Plain, Current, State, Hand, Plant, Remove, Restart}
 use Rattle.step_effect.proofs.Change.{the-type}
@@ -84,6 +85,41 @@ keeps-draft t (Hand active id count) plain e = true-or-false e
 keeps-draft t (Plant k site b0 b1) plain e = true-or-false e
 keeps-draft t (Remove k) plain e = refl
 keeps-draft t Restart plain e = true-or-false e
+
+-- ---- parts that a change is not about
+
+pub not-beside : (c : Change) → among (0 ∷ 1 ∷ 4 ∷ 5 ∷ 6 ∷ []) (tagOf the-type c) ≡ true → false ≡ inBeside c
+unfolding among inBeside
+not-beside Same e = refl
+not-beside Plain e = refl
+not-beside (Current pid) e = true-or-false e
+not-beside (State i state wanted) e = true-or-false e
+not-beside (Hand active id count) e = refl
+not-beside (Plant k site b0 b1) e = refl
+not-beside (Remove k) e = refl
+not-beside Restart e = true-or-false e
+
+pub not-entries : (c : Change) → among (0 ∷ 2 ∷ 3 ∷ 4 ∷ []) (tagOf the-type c) ≡ true → false ≡ inEntries c
+unfolding among inEntries
+not-entries Same e = refl
+not-entries Plain e = true-or-false e
+not-entries (Current pid) e = refl
+not-entries (State i state wanted) e = refl
+not-entries (Hand active id count) e = refl
+not-entries (Plant k site b0 b1) e = true-or-false e
+not-entries (Remove k) e = true-or-false e
+not-entries Restart e = true-or-false e
+
+pub not-draft : (c : Change) → among (0 ∷ 1 ∷ 2 ∷ 3 ∷ 6 ∷ []) (tagOf the-type c) ≡ true → false ≡ inDraft c
+unfolding among inDraft
+not-draft Same e = refl
+not-draft Plain e = refl
+not-draft (Current pid) e = refl
+not-draft (State i state wanted) e = refl
+not-draft (Hand active id count) e = true-or-false e
+not-draft (Plant k site b0 b1) e = true-or-false e
+not-draft (Remove k) e = refl
+not-draft Restart e = true-or-false e
 
 -- ---- the record, of its parts
 

@@ -12,7 +12,7 @@ ghost use lib.ListN.{set};
 ghost use Rattle.target_fit.specs.Fit.{processAt};
 ghost use Rattle.rules.specs.Record.{withState};
 ghost use Rattle.step_effect.specs.Change.{storePlains, madeOf, stored, processesAfter, selectedAfter, currentAfter};
-ghost use Rattle.step_effect.specs.Change.{entriesAfter, draftAfter};
+ghost use Rattle.step_effect.specs.Change.{entriesAfter, draftAfter, inBeside, inEntries, inDraft};
 ghost use Rattle.step_effect.specs.declared.Change.the-variants as change;
 
 // The state and the mark of one process set.
@@ -165,6 +165,45 @@ pub fn draft_after(d: Draft, e: Effect) -> Draft
         Change::Plant(_, _, _, _) => Draft::closed(),
         Change::Restart => Draft::closed(),
         _ => d,
+    }
+}
+
+// ---- which parts of the record a step changes
+
+pub fn in_beside(e: Effect) -> bool
+    ensures { λ r. ⌜ r ≡ inBeside (e .change) ⌝ }
+{
+    let c = e.change;
+    match c {
+        Change::Current(_) => true,
+        Change::State(_, _, _) => true,
+        Change::Restart => true,
+        _ => false,
+    }
+}
+
+pub fn in_entries(e: Effect) -> bool
+    ensures { λ r. ⌜ r ≡ inEntries (e .change) ⌝ }
+{
+    let c = e.change;
+    match c {
+        Change::Plain => true,
+        Change::Plant(_, _, _, _) => true,
+        Change::Remove(_) => true,
+        Change::Restart => true,
+        _ => false,
+    }
+}
+
+pub fn in_draft(e: Effect) -> bool
+    ensures { λ r. ⌜ r ≡ inDraft (e .change) ⌝ }
+{
+    let c = e.change;
+    match c {
+        Change::Hand(_, _, _) => true,
+        Change::Plant(_, _, _, _) => true,
+        Change::Restart => true,
+        _ => false,
     }
 }
 

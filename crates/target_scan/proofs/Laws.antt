@@ -75,7 +75,8 @@ module _ (base : ℕ) (mem : List ℕ) (e : Stored) (from : ℕ) (pool : List El
       let few : e .count ≤ 64 = omega (arith, eqb-true (length its) (e .count) all, formed-few its formed) in
       rw (one, site, le-leb (e .count) 64 few, r, all, formed)
 
-  pub used-fits : usedTest base mem e from pool ≡ true → (entryFit house base mem seenAt ≡ true) × (from + e .count ≤ 128)
+  pub used-fits : usedTest base mem e from pool ≡ true
+      → (entryFit house base mem seenAt ≡ true) × (from + e .count ≤ 128)
   unfolding usedTest
   used-fits h =
       let one : eqb (e .used) 1 ≡ true = search parts depth 9 in
@@ -189,7 +190,8 @@ module _ {base : ℕ} {mem : List ℕ} {es : List Stored} {pool : List Element} 
   scan-all h =
       let z : length seen ≡ 8 = length-view es pool ∙ p .size in
       let eight : i ≡ 8 = omega (arith, p .within) in
-      let all : held ≡ heldBy es 0 = p .start ∙ ap (startAt es) eight ∙ sym (add-zero (startAt es 8)) ∙ start-all es 8 0 (p .size) in
+      let all : held ≡ heldBy es 0 =
+      p .start ∙ ap (startAt es) eight ∙ sym (add-zero (startAt es 8)) ∙ start-all es 8 0 (p .size) in
       rw (
         ← every-done 8 i (slotFit house base mem seen) h (p .within) (p .fit),
         ← all,

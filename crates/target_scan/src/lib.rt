@@ -208,7 +208,8 @@ fn scan_draft(found: Scan, d: Draft, places: &[u32; Table::WORDS]) -> Scan
     }
 }
 
-// Whether a record with its pool is fit over a memory, and its table as arrays; of an unfit one, arrays of free entries.
+// Whether a record with its pool is fit over a memory, and its table as arrays; of an unfit one, arrays of free
+// entries.
 pub fn check(t: Target, places: &[u32; Table::WORDS], mem: &[u8]) -> Scan
     ensures { λ r. ⌜ r ≡ scanOf (fitOf house (viewOf t (now (places .entry))) (now (mem .entry))) (t .base)
         (viewTable (t .table) (elementsOf (now (places .entry)))) ⌝ }

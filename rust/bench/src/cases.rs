@@ -148,7 +148,7 @@ impl Case {
 
 /// Every case over each window, those of one name together.
 pub fn cases(windows: &[u32]) -> Vec<Case> {
-    let groups = [reads, writes, processes, changes, traps, events, refusals];
+    let groups = [reads, writes, processes, changes, full_pool, traps, events, refusals];
     let over = |group: fn(u32) -> Vec<Case>| windows.iter().flat_map(move |&window| group(window));
     let mut list: Vec<Case> = groups.into_iter().flat_map(over).collect();
     let names: Vec<&str> = list.iter().map(|case| case.name).collect();
@@ -223,15 +223,22 @@ fn four(pid: u32) -> Vec<(u8, u32)> {
     vec![(b'k', pid), (b'p', 1), (b'=', 0), (b'a', 0)]
 }
 
+/// Five elements with a read of memory, which holds what they say.
+fn five(address: u32) -> [(u8, u32); 5] {
+    let plain = [0, 1, 2, 3].map(|i| (address - BASE + i) as u8);
+    [(b'p', address), (b'*', 0), (b'p', u32::from_le_bytes(plain)), (b'=', 0), (b'a', 0)]
+}
+
 /// Sixteen elements with two reads of memory, one of them at the site itself: true of the trap of
 /// this process alone, and evaluated to the end either way.
 fn sixteen(window: u32, site: u32, pid: u32) -> Vec<(u8, u32)> {
-    let holds = |address: u32| {
-        let plain = [0, 1, 2, 3].map(|i| (address - BASE + i) as u8);
-        [(b'p', address), (b'*', 0), (b'p', u32::from_le_bytes(plain)), (b'=', 0), (b'a', 0)]
-    };
     let own = [(b'k', pid), (b'a', 0)];
-    [&holds(site)[..], &holds(clear(window)), &four(pid), &own].concat()
+    [&five(site)[..], &five(clear(window)), &four(pid), &own].concat()
+}
+
+/// As many elements as a condition may have: the sixteen four times.
+fn sixty_four(window: u32, site: u32, pid: u32) -> Vec<(u8, u32)> {
+    sixteen(window, site, pid).repeat(4)
 }
 
 /// A condition begun and its elements.
@@ -247,6 +254,14 @@ fn planted(id: u32, elements: &[(u8, u32)], site: u32) -> Vec<Request> {
 /// So many breakpoints of four elements at these sites.
 pub fn standing(count: u32, window: u32, sites: fn(u32, u32) -> u32) -> Vec<Request> {
     (0..count).flat_map(|i| planted(i, &four(OTHER), sites(window, i))).collect()
+}
+
+/// Seven breakpoints that hold 64 places in all.
+fn holding_64(window: u32) -> Vec<Request> {
+    let nine = [&five(clear(window))[..], &four(OTHER)].concat();
+    let ten = [five(clear(window)), five(clear(window))].concat();
+    let list = |i| if i == 0 { &ten } else { &nine };
+    (0..7).flat_map(|i| planted(i, list(i), apart(window, i))).collect()
 }
 
 /// Tmget of nine bytes.
@@ -331,6 +346,23 @@ fn changes(window: u32) -> Vec<Case> {
     [Fill::Empty, Fill::Full].into_iter().flat_map(each).collect()
 }
 
+/// b and d where all 128 places are held and all of them move: the breakpoint that is made or
+/// removed is the first of the table and has 64 elements, the seven others have 64 together.
+fn full_pool(window: u32) -> Vec<Case> {
+    let site = apart(window, 7);
+    let long = sixty_four(window, site, PID);
+    let first = |elements: &[(u8, u32)]| [planted(ID, elements, site), holding_64(window)].concat();
+    let change = |name, before: Vec<Request>, letter, val| {
+        let work = Work::Change(tcondbreak(letter, val));
+        Case::of(name, Fill::Full, window, before, work).gives(&[(0, RCONDBREAK)])
+    };
+    let free = [first(&[]), vec![tcondbreak(b'd', ID)], begun(ID, &long)].concat();
+    vec![
+        change("Tcondbreak b, all places", free, b'b', site),
+        change("Tcondbreak d, all places", first(&long), b'd', ID),
+    ]
+}
+
 /// Traps at the last breakpoint of the table.
 fn traps(window: u32) -> Vec<Case> {
     let site = apart(window, 7);
@@ -345,12 +377,15 @@ fn traps(window: u32) -> Vec<Case> {
         })
     };
     let long = |pid| sixteen(window, site, pid);
+    let longest = |pid| sixty_four(window, site, pid);
     let cases = [
         trap("trap, 0 elements, Stop", vec![], Work::Stop, stop),
         trap("trap, 4 elements, Pass", four(OTHER), Work::Pass, pass),
         trap("trap, 4 elements, Stop", four(PID), Work::Stop, stop),
         trap("trap, 16 elements, Pass", long(OTHER), Work::Pass, pass),
         trap("trap, 16 elements, Stop", long(PID), Work::Stop, stop),
+        trap("trap, 64 elements, Pass", longest(OTHER), Work::Pass, pass),
+        trap("trap, 64 elements, Stop", longest(PID), Work::Stop, stop),
     ];
     cases.into_iter().flatten().collect()
 }
@@ -409,8 +444,8 @@ mod tests {
     #[test]
     #[should_panic(expected = "the second turn differs")]
     fn work_that_does_not_come_round_is_found() {
-        // The sixteenth element is accepted, the seventeenth is not.
-        let (before, work) = (begun(ID, &[(b'p', 1); 15]), vec![tcondbreak(b'p', 1)]);
+        // The sixty-fourth element is accepted, the sixty-fifth is not.
+        let (before, work) = (begun(ID, &[(b'p', 1); 63]), vec![tcondbreak(b'p', 1)]);
         let case = Case::of("p", Fill::Empty, 64, before, Work::Requests(work));
         case.gives(&[(0, RCONDBREAK)]).agreed();
     }
@@ -435,7 +470,10 @@ mod tests {
     }
 
     #[test]
-    fn sixteen_elements_are_sixteen() {
+    fn conditions_have_their_lengths() {
         assert_eq!(sixteen(64, apart(64, 7), PID).len(), 16);
+        assert_eq!(sixty_four(64, apart(64, 7), PID).len(), 64);
+        // Beside the elements a breakpoint takes an n and a b.
+        assert_eq!(holding_64(64).len(), 64 + 7 * 2);
     }
 }

@@ -1,5 +1,5 @@
-//! Prints how fast the proved stub is beside an independent Rust stub, how deep its stack is, how
-//! fast image differences are and how large the code is.
+//! Prints how fast the proved stub is beside a stub in plain Rust (`rust/bench_stub`), how deep its
+//! stack is, how fast image differences are and how large the code is.
 //!
 //!     cargo run --release --offline --manifest-path rust/bench/Cargo.toml -- [--quick] [--only TEXT]
 //!

@@ -23,8 +23,8 @@ impl Caller for Direct {
 }
 
 pub struct Proved<C> {
-    target: Box<ffi::Target>,
-    image: Box<ffi::Target>,
+    record: Box<ffi::Record>,
+    image: Box<ffi::Record>,
     lent: Lent,
     pub caller: C,
 }
@@ -36,7 +36,7 @@ impl<C: Caller> Proved<C> {
         let Lent { memory, registers, reply, .. } = &mut self.lent;
         let none: &mut [u8] = &mut [];
         let reply = if replies { &mut reply[..] } else { none };
-        let record = &mut *self.target;
+        let record = &mut *self.record;
         let lent = call::Lent { record, memory, registers, pid, value, input, reply };
         black_box(self.caller.call(kind, lent))
     }
@@ -45,7 +45,7 @@ impl<C: Caller> Proved<C> {
 impl<C: Caller> Side for Proved<C> {
     fn new(window: u32) -> Self {
         let caller = C::default();
-        Self { target: Box::default(), image: Box::default(), lent: Lent::new(window), caller }
+        Self { record: Box::default(), image: Box::default(), lent: Lent::new(window), caller }
     }
 
     fn lent(&self) -> &Lent {
@@ -56,15 +56,16 @@ impl<C: Caller> Side for Proved<C> {
         &mut self.lent
     }
 
-    /// As the header's `sanirvoq_setup`: a cleared record with what setup takes from it, then the step.
+    /// As the header's `sanirvoq_setup`: a record cleared but for its places, with what setup takes
+    /// from it, then the step.
     #[inline(always)]
     fn setup(&mut self) -> u32 {
-        *self.target = ffi::Target::default();
-        self.target.base = black_box(BASE);
-        self.target.size = black_box(self.lent.memory.len() as u32);
-        self.target.count = PROCESSES.len() as u32;
-        for (process, (pid, address)) in self.target.processes.iter_mut().zip(black_box(PROCESSES))
-        {
+        let target = &mut self.record.target;
+        *target = ffi::Target::default();
+        target.base = black_box(BASE);
+        target.size = black_box(self.lent.memory.len() as u32);
+        target.count = PROCESSES.len() as u32;
+        for (process, (pid, address)) in target.processes.iter_mut().zip(black_box(PROCESSES)) {
             (process.pid, process.address) = (pid, address);
         }
         self.step(Kind::Setup, 0, 0, &[], false)
@@ -97,20 +98,21 @@ impl<C: Caller> Side for Proved<C> {
 
     #[inline(always)]
     fn set_ready(&mut self) {
-        self.target.processes[LAST].state = READY;
+        self.record.target.processes[LAST].state = READY;
     }
 
     fn select(&mut self, pid: u32) {
-        (self.target.selected, self.target.current) = (1, pid);
+        let target = &mut self.record.target;
+        (target.selected, target.current) = (1, pid);
     }
 
     fn keep(&mut self) {
-        *self.image = *self.target;
+        *self.image = *self.record;
     }
 
     #[inline(always)]
     fn restore(&mut self) {
-        *self.target = **black_box(&self.image);
+        *self.record = **black_box(&self.image);
         self.lent.put_back();
     }
 }

@@ -4,7 +4,7 @@
 use crate::cases::{apart, clear, standing, together};
 use crate::side::{BASE, PROCESSES};
 use crate::worker::Worker;
-use reference::{Stub, BLOCK, ENTRIES, MESSAGE};
+use bench_stub::{Stub, BLOCK, ENTRIES, MESSAGE};
 use std::hint::black_box;
 
 const BYTES: usize = 9;
@@ -77,14 +77,14 @@ impl Scene {
     fn new(name: &'static str, sites_of: fn(u32, u32) -> u32, address: u32) -> Self {
         let mut memory: Vec<u8> = (0..WINDOW).map(|i| i as u8).collect();
         let (mut registers, mut reply) = (vec![0; PROCESSES.len() * BLOCK], [0; MESSAGE]);
-        let mut stub = Stub::empty();
+        let mut stub = Stub::default();
         stub.setup(BASE, WINDOW, &PROCESSES, &memory, &registers).expect("a setup");
         for request in standing(ENTRIES as u32, WINDOW, sites_of) {
             stub.request(&mut memory, &mut registers, &request, &mut reply).expect("a request");
         }
         let (mut sites, mut plain) = ([FREE; ENTRIES], [0; 2 * ENTRIES]);
-        for (k, entry) in stub.table.iter().enumerate() {
-            let entry = entry.expect("eight breakpoints");
+        for (k, entry) in stub.entries.iter().enumerate() {
+            assert!(entry.used, "eight breakpoints");
             sites[k] = entry.site - BASE;
             plain[2 * k..2 * k + 2].copy_from_slice(&entry.plain);
         }

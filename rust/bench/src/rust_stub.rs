@@ -1,10 +1,10 @@
-//! The independent Rust stub, through its own interface.
+//! The stub in plain Rust, through its own interface.
 //!
 //! Each step is called through a function that is never inlined: the call stays a call, as that of
 //! a library is, and the step is not specialised to the benchmark's loops.
 
 use crate::side::{Event, Lent, Request, Side, BASE, LAST, PROCESSES};
-use reference::{Refusal, Stub, Verdict, READY};
+use bench_stub::{Refusal, Stub, Verdict, READY};
 use std::hint::black_box;
 
 pub struct RustStub {
@@ -116,18 +116,12 @@ impl Side for RustStub {
     }
 
     fn keep(&mut self) {
-        self.image.clone_from(&self.stub);
+        *self.image = *self.stub;
     }
 
-    /// Field by field, as plain copies of bytes: `clone` takes twice as long and more, and the less
-    /// there is to take off, the surer is what remains.
     #[inline(always)]
     fn restore(&mut self) {
-        let image = black_box(&*self.image);
-        self.stub.processes = image.processes;
-        self.stub.table = image.table;
-        self.stub.draft = image.draft;
-        self.stub.current = image.current;
+        *self.stub = **black_box(&self.image);
         self.lent.put_back();
     }
 }

@@ -113,7 +113,7 @@ pub fn depths(cases: &[Case]) -> Vec<Depth> {
 mod tests {
     use super::*;
     use crate::cases::cases;
-    use sanirvoq::ffi::Target;
+    use sanirvoq::ffi::Record;
     use std::arch::naked_asm;
 
     /// Writes the lowest byte of N that it takes from the stack, besides its return address.
@@ -142,7 +142,7 @@ mod tests {
     /// Measures a function that follows no pointer. Gives also what `folds` is to make of the
     /// arguments.
     fn measured(painted: &mut Painted, function: *const ()) -> (u32, usize, u32) {
-        let record = &mut Target::default();
+        let record = &mut Record::default();
         let (memory, registers) = (&mut [0; 5][..], &mut [0; 11][..]);
         let (input, reply) = (&[0; 23][..], &mut [0; 31][..]);
         let (block, area) = (memory.as_ptr().addr(), registers.as_ptr().addr());

@@ -2,8 +2,8 @@
 
 use crate::op::{Call, Kind};
 use crate::pair::Answer;
-use reference::{Book, Claim, Planted, Verdict, STOPPED};
-use sanirvoq::ffi;
+use reference::{Book, Claim, Places, Planted, Verdict, STOPPED};
+use sanirvoq::{ffi, Element};
 
 /// Feeds an accepted step, with the register area that it was lent.
 pub fn feed(book: &mut Book, call: &Call, registers: &[u8], proved: &Answer) -> Claim {
@@ -28,16 +28,14 @@ pub fn feed(book: &mut Book, call: &Call, registers: &[u8], proved: &Answer) -> 
 
 /// The record has the book's breakpoints and no other, its Stopped processes and no other, and in
 /// hand nothing but the book's draft. The book keeps a draft that the stub dropped.
-pub fn record_has(target: &ffi::Target, book: &Book) -> Claim {
-    let same = |items: &[ffi::Element], count: u32, sent: &[(u8, u32)]| {
-        let items = items.iter().take(count as usize).map(|item| (item.letter, item.value));
-        items.eq(sent.iter().copied())
-    };
-    let used = || target.table.entries.iter().filter(|entry| entry.used == 1);
+pub fn record_has(record: &ffi::Record, book: &Book) -> Claim {
+    let target = &record.target;
+    let entries = || target.table.entries.iter().enumerate();
+    let used = || entries().filter(|(_, entry)| entry.used == 1);
     let has = |one: &Planted| {
-        used().any(|entry| {
+        used().any(|(index, entry)| {
             (entry.site, u32::from(entry.id)) == (one.site, one.condition.id)
-                && same(&entry.elements, entry.count, &one.condition.elements)
+                && same(record.condition(index), &one.condition.elements)
         })
     };
     if used().count() != book.planted().len() || !book.planted().iter().all(has) {
@@ -49,10 +47,41 @@ pub fn record_has(target: &ffi::Target, book: &Book) -> Claim {
     }
     let draft = &target.table.draft;
     let known = book.draft().is_some_and(|kept| {
-        u32::from(draft.id) == kept.id && same(&draft.elements, draft.count, &kept.elements)
+        u32::from(draft.id) == kept.id && same(record.in_hand(), &kept.elements)
     });
     if draft.active == 1 && !known {
         return Err("the condition in hand is not the book's draft");
     }
     Ok(())
+}
+
+/// Whether elements are those that were sent.
+fn same(elements: Option<impl Iterator<Item = Element>>, sent: &[(u8, u32)]) -> bool {
+    let sent = sent.iter().map(|&(letter, value)| Element { letter: letter.into(), value });
+    elements.is_some_and(|elements| elements.eq(sent))
+}
+
+/// Feeds the count of places an accepted step.
+pub fn feed_places(places: &mut Places, call: &Call, proved: &Answer) {
+    match call.kind {
+        Kind::Request => {
+            let bytes = (call.input.first_chunk(), proved.reply.first_chunk());
+            if let (Some(request), Some(reply)) = bytes {
+                places.request(request, reply);
+            }
+        }
+        Kind::Restart => places.restart(),
+        _ => {}
+    }
+}
+
+/// The record holds as many places as the history says.
+pub fn places_are_held(record: &ffi::Record, places: &Places) -> Claim {
+    let draft = &record.target.table.draft;
+    let in_hand = if draft.active == 1 { u64::from(draft.count) } else { 0 };
+    if record.first_place(ffi::ENTRIES) as u64 + in_hand == places.held() {
+        Ok(())
+    } else {
+        Err("the places held are not those of the history")
+    }
 }

@@ -3,23 +3,22 @@
 use crate::op::{Call, Kind};
 use crate::raw::held;
 use crate::record::Record;
-use reference::{fit, Refusal, Stub, Verdict, BLOCK};
+use reference::{fit, Refusal, Stub, Verdict, BLOCK, PROCESSES};
 use sanirvoq::ffi;
 
 /// The record that the independent side has.
 pub enum Held {
     /// One that its types hold.
-    Stub(Stub),
+    Stub(Box<Stub>),
     /// One that they do not: not fit, whatever memory has.
-    Raw(ffi::Target),
+    Raw(Box<ffi::Record>),
 }
 
 impl Held {
     pub fn new(record: &Record) -> Self {
-        let target = record.target();
-        match held(target) {
-            Some(stub) => Self::Stub(stub),
-            None => Self::Raw(*target),
+        match held(record.raw()) {
+            Some(stub) => Self::Stub(Box::new(stub)),
+            None => Self::Raw(Box::new(*record.raw())),
         }
     }
 
@@ -35,7 +34,7 @@ impl Held {
     pub fn number(&self, memory: &[u8], registers: &[u8]) -> u8 {
         let (size, count, fits) = match self {
             Self::Stub(stub) => (stub.size, stub.processes.len() as u32, fit(stub, memory)),
-            Self::Raw(raw) => (raw.size, raw.count, false),
+            Self::Raw(raw) => (raw.target.size, raw.target.count, false),
         };
         let area = BLOCK as u64 * u64::from(count);
         if (memory.len() as u64, registers.len() as u64) != (u64::from(size), area) {
@@ -73,17 +72,18 @@ impl Held {
                 (stub.base, stub.size, pairs.collect::<Vec<_>>())
             }
             Self::Raw(raw) => {
-                let pairs = raw.processes.iter().map(|one| (one.pid, one.address));
-                (raw.base, raw.size, pairs.take(raw.count as usize).collect())
+                let target = &raw.target;
+                let pairs = target.processes.iter().map(|one| (one.pid, one.address));
+                (target.base, target.size, pairs.take(target.count as usize).collect())
             }
         };
-        if matches!(self, Self::Raw(raw) if raw.count as usize > raw.processes.len()) {
+        if matches!(self, Self::Raw(raw) if raw.target.count as usize > PROCESSES) {
             // One more than there may be stands for all counts over four.
             processes.push((u32::MAX, 0));
         }
         let mut stub = Stub::empty();
         let done = stub.setup(base, size, &processes, memory, registers);
-        *self = Self::Stub(stub);
+        *self = Self::Stub(Box::new(stub));
         done.map(|()| [0; 3])
     }
 

@@ -6,7 +6,7 @@
 //! - [`archive`] and [`independent`]: the two sides; [`raw`] says what a record of any bytes is
 //!   worth
 //! - [`pair`]: runs one [`op::Op`] on both sides and compares; what is compared when is said there
-//! - [`book`]: the book of demand 3 beside a session
+//! - [`book`]: the book of demand 3 beside a session, and the places held by its history
 //! - [`images`]: image differences, a call without a session: pairs, both sides, counts
 //! - [`texts`]: text packets, calls without a session: packets and damaged texts, both sides, counts
 //! - [`make`]: makes the lists, from a seed; the steps of a session come from `rust/steps`

@@ -4,19 +4,21 @@
 //! - the number and the answer (all 32 bits of the result, of a request too) and the reply buffer;
 //! - memory and register area as they were lent to that step;
 //! - the record: what it shows of the window, the processes, the current one, the breakpoints and
-//!   the condition in hand (see [`shows`]); a record that cannot be fit, field by field;
+//!   the condition in hand, both with their elements (see [`shows`]); a record that cannot be fit,
+//!   field by field;
 //! - the input, which is only read;
-//! - after a number other than 0, that nothing changed: no field of the record, no byte of memory,
-//!   registers or reply (a setup changes no buffer at all, and a refused one empties the record);
-//! - after Rerr, that memory, registers and all of the record but the condition in hand are as
-//!   before;
-//! - in a session, the claims of the book of demand 3, and that the record has what the book has.
+//! - after a number other than 0, that nothing changed: no byte of the record, of memory, registers
+//!   or reply (a setup changes no buffer at all, and a refused one empties the record);
+//! - after Rerr, that memory, registers and all of the record but the condition in hand and the
+//!   places that no breakpoint holds are as before;
+//! - in a session, the claims of the book of demand 3, that the record has what the book has, and
+//!   that it holds as many places as the history says.
 //!
 //! Windows of many bytes are rare ([`crate::make::setup`]), so comparing all of them each time is
 //! cheap.
 
 use crate::archive::{Lent, Stub};
-use crate::book::{feed, record_has};
+use crate::book::{feed, feed_places, places_are_held, record_has};
 use crate::difference::{lines, Difference};
 use crate::independent::Held;
 use crate::make::setup::RULES;
@@ -25,8 +27,9 @@ use crate::make::Scene;
 use crate::op::{Call, Kind, Op, Origin};
 use crate::raw::{held, shows};
 use crate::record::Record;
-use reference::{Book, Claim};
+use reference::{Book, Claim, Places};
 use sanirvoq::ffi;
+use steps::places::Held as HeldPlaces;
 
 /// Memory and register area of one side.
 #[derive(Debug, Clone, Default, PartialEq, Eq)]
@@ -91,11 +94,12 @@ pub enum Seen {
     Nothing,
     /// A damaged record, and the number that it gives to steps of right size: 0, 2 or 3.
     Judged(u8),
-    /// A step, with the M and the count of processes in the record before it. Its answer is
-    /// [`Pair::answer`].
+    /// A step, with the M and the count of processes in the record before it, and the places held
+    /// then where the independent stub holds the record. Its answer is [`Pair::answer`].
     Step {
         size: u32,
         count: u32,
+        places: HeldPlaces,
     },
 }
 
@@ -116,6 +120,8 @@ pub struct Pair {
     independent: Buffers,
     /// Kept from an accepted setup until something is done that a session has not.
     book: Option<Book>,
+    /// Of the same session as the book.
+    places: Places,
     /// Of the record, while no step has changed it.
     origin: Origin,
     record_before: Box<Record>,
@@ -139,6 +145,7 @@ impl Pair {
             proved: Buffers::default(),
             independent: Buffers::default(),
             book: None,
+            places: Places::new(),
             origin: Origin::Restored,
             before: Buffers::default(),
             input: Vec::new(),
@@ -233,6 +240,7 @@ impl Pair {
     fn exchange(&mut self, call: &Call) -> Result<Seen, Box<Difference>> {
         self.record_before.clone_from(&self.record);
         self.before.copy(&self.proved);
+        let places = self.held.stub().map(HeldPlaces::of).unwrap_or_default();
         self.proved_step(call);
         self.independent_step(call);
         let fault = self
@@ -249,7 +257,7 @@ impl Pair {
             self.origin = Origin::Restored;
         }
         let &ffi::Target { size, count, .. } = self.record_before.target();
-        Ok(Seen::Step { size, count })
+        Ok(Seen::Step { size, count, places })
     }
 
     fn proved_step(&mut self, call: &Call) {
@@ -260,6 +268,9 @@ impl Pair {
         let (record, input) = (&mut self.record, &mut self.input);
         let mut lent = Lent { record, memory, registers, input, reply };
         *result = (self.stub)(call, &mut lent).to_le_bytes();
+        if call.kind == Kind::Setup || result[0] == 0 {
+            self.record.define_padding();
+        }
     }
 
     fn independent_step(&mut self, call: &Call) {
@@ -285,8 +296,8 @@ impl Pair {
             return Some("the register area differs");
         }
         let same = match &self.held {
-            Held::Stub(stub) => shows(self.record.target(), stub),
-            Held::Raw(raw) => self.record.target() == raw,
+            Held::Stub(stub) => shows(self.record.raw(), stub),
+            Held::Raw(raw) => self.record.raw() == &**raw,
         };
         (!same).then_some("the record differs")
     }
@@ -304,9 +315,7 @@ impl Pair {
             }
             (_, 0) => None,
             _ if !buffers() => Some("refused, but a lent buffer was changed"),
-            _ if !self.record.same(&self.record_before) => {
-                Some("refused, but the record was changed")
-            }
+            _ if self.record != self.record_before => Some("refused, but the record was changed"),
             _ if self.answer.reply.iter().any(|&byte| byte != call.fill) => {
                 Some("refused, but the reply was changed")
             }
@@ -336,23 +345,26 @@ impl Pair {
                 let pids = asked.processes.map(|process| process.pid);
                 Book::new(asked.base, &pids[..asked.count as usize], &self.before.memory)
             });
+            self.places = Places::new();
         }
         let Some(book) = &mut self.book else { return Ok(()) };
         if accepted {
             feed(book, call, &self.before.registers, &self.answer)?;
+            feed_places(&mut self.places, call, &self.answer);
         }
         if call.memory.is_none() {
             book.lies_under(&self.proved.memory)?;
         }
-        record_has(self.record.target(), book)
+        record_has(self.record.raw(), book)?;
+        places_are_held(self.record.raw(), &self.places)
     }
 
     /// With what both sides gave, where a step is at fault.
     fn difference(&self, what: String, by_step: bool) -> Box<Difference> {
         let (proved, independent) = by_step.then_some((&self.answer, &self.expected)).unzip();
-        let record = match held(self.record.target()) {
+        let record = match held(self.record.raw()) {
             Some(stub) => format!("{stub:?}"),
-            None => format!("{:?}", self.record.target()),
+            None => format!("{:?}", self.record.raw()),
         };
         let other = match &self.held {
             Held::Stub(stub) => format!("{stub:?}"),

@@ -2,27 +2,29 @@
 //! stub cannot hold is not fit; what they hold, `reference::fit` judges. Also whether a record
 //! shows what the independent stub has.
 
-use reference::{Breakpoint, Draft, Element, Elements, List, Process, Stub, ENTRIES};
-use sanirvoq::ffi;
+use reference::{Breakpoint, Draft, Element, List, Process, Stub, ENTRIES};
+use sanirvoq::{ffi, Element as Place};
 
 /// The record in the independent stub's types. None where a flag is neither 0 nor 1, there are more
-/// processes or elements than there is room for, or an element is none.
-pub fn held(target: &ffi::Target) -> Option<Stub> {
-    let mut table = [None; ENTRIES];
-    for (slot, entry) in table.iter_mut().zip(&target.table.entries) {
+/// processes than there is room for, elements would stand past the last place, or one is none.
+pub fn held(record: &ffi::Record) -> Option<Stub> {
+    let target = &record.target;
+    let mut table = [const { None }; ENTRIES];
+    for (index, (slot, entry)) in table.iter_mut().zip(&target.table.entries).enumerate() {
         if flag(entry.used)? {
-            *slot = Some(breakpoint(entry)?);
+            let plain = [entry.plain[0], entry.plain[1]];
+            let elements = elements(record.condition(index))?;
+            *slot = Some(Breakpoint { id: entry.id, site: entry.site, plain, elements });
         }
     }
     let draft = &target.table.draft;
-    Some(Stub {
-        base: target.base,
-        size: target.size,
-        processes: processes(target)?,
-        table,
-        draft: if flag(draft.active)? { Some(in_hand(draft)?) } else { None },
-        current: flag(target.selected)?.then_some(target.current),
-    })
+    let draft = match flag(draft.active)? {
+        true => Some(Draft { id: draft.id, elements: elements(record.in_hand())? }),
+        false => None,
+    };
+    let current = flag(target.selected)?.then_some(target.current);
+    let processes = processes(target)?;
+    Some(Stub { base: target.base, size: target.size, processes, table, draft, current })
 }
 
 fn flag(byte: u8) -> Option<bool> {
@@ -33,50 +35,36 @@ fn flag(byte: u8) -> Option<bool> {
     }
 }
 
-/// The first `count` of an array; what is past them is of no account.
-fn counted<T>(items: &[T], count: u32) -> Option<&[T]> {
-    items.get(..usize::try_from(count).ok()?)
-}
-
+/// The first `count`; what is past them is of no account.
 fn processes(target: &ffi::Target) -> Option<List<Process, 4>> {
+    let listed = target.processes.get(..usize::try_from(target.count).ok()?)?;
     let mut list = List::new();
-    for &ffi::Process { pid, address, state, wanted } in counted(&target.processes, target.count)? {
+    for &ffi::Process { pid, address, state, wanted } in listed {
         list.push(Process { pid, address, state, wanted: flag(wanted)? });
     }
     Some(list)
 }
 
-fn breakpoint(entry: &ffi::Entry) -> Option<Breakpoint> {
-    let elements = elements(&entry.elements, entry.count)?;
-    Some(Breakpoint { id: entry.id, site: entry.site, plain: entry.plain, elements })
-}
-
-fn in_hand(draft: &ffi::Draft) -> Option<Draft> {
-    Some(Draft { id: draft.id, elements: elements(&draft.elements, draft.count)? })
-}
-
-/// val is unused, so zero, for all letters but k and p.
-fn elements(items: &[ffi::Element], count: u32) -> Option<Elements> {
-    let mut list = Elements::new();
-    for item in counted(items, count)? {
-        let unused = !matches!(item.letter, b'k' | b'p');
-        if unused && item.value != 0 {
-            return None;
-        }
-        list.push(Element::of(item.letter, item.value)?);
-    }
-    Some(list)
+/// A letter over 255 is none; val is unused, so zero, for all letters but k and p.
+fn elements(places: Option<impl Iterator<Item = Place>>) -> Option<Vec<Element>> {
+    let element = |Place { letter, value }: Place| {
+        let letter = u8::try_from(letter).ok()?;
+        let unused = !matches!(letter, b'k' | b'p');
+        Element::of(letter, value).filter(|_| !unused || value == 0)
+    };
+    places?.map(element).collect()
 }
 
 /// Whether the record shows just what the independent stub has. What a free entry, a condition that
-/// is not in hand or the room past a count holds is no part of that.
-pub fn shows(target: &ffi::Target, stub: &Stub) -> bool {
+/// is not in hand, the room past a count or a place that is not held has is no part of that.
+pub fn shows(record: &ffi::Record, stub: &Stub) -> bool {
+    let target = &record.target;
     (target.base, target.size) == (stub.base, stub.size)
         && shows_processes(target, stub)
         && target.selected == u8::from(stub.current.is_some())
         && stub.current.is_none_or(|pid| target.current == pid)
-        && target.table.entries.iter().zip(&stub.table).all(shows_entry)
-        && shows_draft(&target.table.draft, stub.draft.as_ref())
+        && stub.table.iter().enumerate().all(|(index, slot)| shows_entry(record, index, slot))
+        && shows_draft(record, stub.draft.as_ref())
 }
 
 fn shows_processes(target: &ffi::Target, stub: &Stub) -> bool {
@@ -88,28 +76,27 @@ fn shows_processes(target: &ffi::Target, stub: &Stub) -> bool {
         && target.processes.iter().zip(stub.processes.iter()).all(same)
 }
 
-fn shows_entry((entry, slot): (&ffi::Entry, &Option<Breakpoint>)) -> bool {
+fn shows_entry(record: &ffi::Record, index: usize, slot: &Option<Breakpoint>) -> bool {
+    let entry = &record.target.table.entries[index];
     let Some(point) = slot else { return entry.used == 0 };
-    entry.used == 1
-        && (entry.id, entry.site, entry.plain) == (point.id, point.site, point.plain)
-        && shows_elements(&entry.elements, entry.count, &point.elements)
+    (entry.used, entry.id, entry.site) == (1, point.id, point.site)
+        && entry.plain[..2] == point.plain
+        && shows_elements(record.condition(index), &point.elements)
 }
 
-fn shows_draft(draft: &ffi::Draft, stub: Option<&Draft>) -> bool {
+fn shows_draft(record: &ffi::Record, stub: Option<&Draft>) -> bool {
+    let draft = &record.target.table.draft;
     let Some(stub) = stub else { return draft.active == 0 };
-    draft.active == 1
-        && draft.id == stub.id
-        && shows_elements(&draft.elements, draft.count, &stub.elements)
+    (draft.active, draft.id) == (1, stub.id) && shows_elements(record.in_hand(), &stub.elements)
 }
 
-fn shows_elements(items: &[ffi::Element], count: u32, elements: &[Element]) -> bool {
-    count as usize == elements.len()
-        && items.iter().zip(elements).all(|(item, &one)| (item.letter, item.value) == sent(one))
+fn shows_elements(places: Option<impl Iterator<Item = Place>>, elements: &[Element]) -> bool {
+    places.is_some_and(|places| places.eq(elements.iter().map(|&one| sent(one))))
 }
 
 /// The letter and the value of an element.
-fn sent(element: Element) -> (u8, u32) {
-    match element {
+fn sent(element: Element) -> Place {
+    let (letter, value) = match element {
         Element::Pid(val) => (b'k', val),
         Element::Literal(val) => (b'p', val),
         Element::Indirect => (b'*', 0),
@@ -118,5 +105,6 @@ fn sent(element: Element) -> (u8, u32) {
         Element::Differ => (b'!', 0),
         Element::Both => (b'a', 0),
         Element::Either => (b'o', 0),
-    }
+    };
+    Place { letter: letter.into(), value }
 }

@@ -2,13 +2,14 @@
 
 #![allow(unsafe_code)]
 
-use sanirvoq::ffi::{Table, Target};
+use sanirvoq::ffi::{self, Table, Target};
 use std::mem::offset_of;
 use std::sync::LazyLock;
 
-const WORDS: usize = size_of::<Target>() / 4;
-/// The condition in hand is the last part of the record.
+const WORDS: usize = size_of::<ffi::Record>() / 4;
+/// The condition in hand is the last part before the places.
 const BEFORE_DRAFT: usize = (offset_of!(Target, table) + offset_of!(Table, draft)) / 4;
+const BEFORE_PLACES: usize = offset_of!(ffi::Record, places) / 4;
 
 /// Words, so that padding too has a value that can be set, kept and compared.
 #[derive(Debug, Clone, PartialEq, Eq)]
@@ -19,24 +20,34 @@ impl Record {
         Self([0; WORDS])
     }
 
-    pub fn target(&self) -> &Target {
+    /// The record as the archive has it.
+    pub fn raw(&self) -> &ffi::Record {
         // SAFETY: size and alignment are those of the words; every value of its fields is one.
         unsafe { &*self.0.as_ptr().cast() }
     }
 
-    pub fn target_mut(&mut self) -> &mut Target {
+    pub fn raw_mut(&mut self) -> &mut ffi::Record {
         // SAFETY: as above, and a field can be given no value that the words have not.
         unsafe { &mut *self.0.as_mut_ptr().cast() }
     }
 
+    /// All of it but the places.
+    pub fn target(&self) -> &Target {
+        &self.raw().target
+    }
+
+    pub fn target_mut(&mut self) -> &mut Target {
+        &mut self.raw_mut().target
+    }
+
     pub fn bytes(&self) -> &[u8] {
         // SAFETY: the words are initialised, and bytes have no alignment.
-        unsafe { std::slice::from_raw_parts(self.0.as_ptr().cast(), size_of::<Target>()) }
+        unsafe { std::slice::from_raw_parts(self.0.as_ptr().cast(), 4 * WORDS) }
     }
 
     pub fn bytes_mut(&mut self) -> &mut [u8] {
         // SAFETY: as above; every byte is a part of some word.
-        unsafe { std::slice::from_raw_parts_mut(self.0.as_mut_ptr().cast(), size_of::<Target>()) }
+        unsafe { std::slice::from_raw_parts_mut(self.0.as_mut_ptr().cast(), 4 * WORDS) }
     }
 
     /// Takes over another's padding, and nothing else.
@@ -46,15 +57,23 @@ impl Record {
         }
     }
 
-    /// Whether every field is the same; padding is of no account.
-    pub fn same(&self, other: &Self) -> bool {
-        same(&self.0, &other.0, &MASK.0)
+    /// Gives padding a value. An accepted step may leave it with bytes that were never written, which
+    /// valgrind would hold against a comparison of all bytes.
+    pub fn define_padding(&mut self) {
+        for (word, mask) in self.0.iter_mut().zip(&MASK.0) {
+            *word = (*word & mask) | (0x5a5a_5a5a & !mask);
+        }
     }
 
-    /// Whether every field but those of the condition in hand is the same.
-    pub fn same_but_draft(&self, other: &Self) -> bool {
-        let upto = ..BEFORE_DRAFT;
-        same(&self.0[upto], &other.0[upto], &MASK.0[upto])
+    /// Whether what is not the condition in hand is the same as it was in a fit record: every field,
+    /// padding left out, and the places of the breakpoints. Those after them belong to the condition
+    /// in hand or to none.
+    pub fn same_but_draft(&self, before: &Self) -> bool {
+        let planted = 2 * before.raw().first_place(ffi::ENTRIES).min(ffi::PLACES);
+        let parts = [0..BEFORE_DRAFT, BEFORE_PLACES..BEFORE_PLACES + planted];
+        parts
+            .into_iter()
+            .all(|part| same(&self.0[part.clone()], &before.0[part.clone()], &MASK.0[part]))
     }
 }
 
@@ -67,7 +86,7 @@ fn same(one: &[u32], other: &[u32], mask: &[u32]) -> bool {
 /// All ones in every field, zeros in the padding.
 static MASK: LazyLock<Record> = LazyLock::new(|| {
     let mut mask = Record::zeroed();
-    let target = mask.target_mut();
+    let ffi::Record { target, places } = mask.raw_mut();
     (target.base, target.size, target.count) = (!0, !0, !0);
     for process in &mut target.processes {
         (process.pid, process.address) = (!0, !0);
@@ -75,15 +94,12 @@ static MASK: LazyLock<Record> = LazyLock::new(|| {
     }
     (target.selected, target.current) = (!0, !0);
     for entry in &mut target.table.entries {
-        (entry.used, entry.id, entry.plain) = (!0, !0, [!0; 2]);
-        (entry.site, entry.count) = (!0, !0);
+        (entry.used, entry.id, entry.count) = (!0, !0, !0);
+        (entry.plain, entry.site) = ([!0; 4], !0);
     }
     let draft = &mut target.table.draft;
     (draft.active, draft.id, draft.count) = (!0, !0, !0);
-    let lists = target.table.entries.iter_mut().map(|entry| &mut entry.elements);
-    for element in lists.chain([&mut draft.elements]).flatten() {
-        (element.letter, element.value) = (!0, !0);
-    }
+    places.fill(!0);
     mask
 });
 
@@ -91,24 +107,38 @@ static MASK: LazyLock<Record> = LazyLock::new(|| {
 mod tests {
     use super::*;
 
-    /// Padding is 3 bytes after each of 144 letters, 2 after each of 4 marks, 3 after `selected`,
-    /// and 2 after the draft's id.
+    /// Padding is 1 byte before each of 8 sites, 2 after each of 4 marks, 3 after `selected`, and 1
+    /// after the condition in hand.
     #[test]
     fn the_mask_leaves_out_padding_alone() {
         let ones: u32 = MASK.0.iter().map(|word| word.count_ones()).sum();
-        assert_eq!(ones as usize, 8 * (size_of::<Target>() - 3 * 144 - 2 * 4 - 3 - 2));
+        assert_eq!(ones as usize, 8 * (size_of::<ffi::Record>() - 8 - 2 * 4 - 3 - 1));
+    }
+
+    /// A record in which entry 2 has three elements and the condition in hand one.
+    fn four_held() -> Record {
+        let mut record = Record::zeroed();
+        let table = &mut record.target_mut().table;
+        (table.entries[2].used, table.entries[2].count) = (1, 3);
+        (table.draft.active, table.draft.count) = (1, 1);
+        record
     }
 
     #[test]
-    fn every_field_counts_and_padding_does_not() {
-        let record = Record::zeroed();
-        for at in 0..size_of::<Target>() {
+    fn the_condition_in_hand_and_unheld_places_are_apart() {
+        let record = four_held();
+        for at in 0..size_of::<ffi::Record>() {
             let mut other = record.clone();
-            other.bytes_mut()[at] = 0x80;
-            assert_eq!(record.same(&other), MASK.bytes()[at] == 0);
-            let outside = at >= 4 * BEFORE_DRAFT || MASK.bytes()[at] == 0;
-            assert_eq!(record.same_but_draft(&other), outside);
-            assert_eq!(*record.target() == *other.target(), MASK.bytes()[at] == 0);
+            other.bytes_mut()[at] ^= 0x80;
+            let in_hand = (4 * BEFORE_DRAFT..4 * BEFORE_PLACES).contains(&at);
+            let unheld = at >= 4 * BEFORE_PLACES + 3 * 8;
+            let apart = in_hand || unheld || MASK.bytes()[at] == 0;
+            assert_eq!(other.same_but_draft(&record), apart, "{at}");
+            assert_eq!(*record.raw() == *other.raw(), MASK.bytes()[at] == 0, "{at}");
+            other.define_padding();
+            let mut defined = record.clone();
+            defined.define_padding();
+            assert_eq!(defined == other, MASK.bytes()[at] == 0, "{at}");
         }
     }
 }

@@ -5,6 +5,7 @@ use crate::make::sorts::{Expect, SORTS};
 use crate::op::{Call, Kind, Op, Origin};
 use crate::pair::{Pair, Seen};
 use reference::{BLOCK, PC};
+use steps::places::Held;
 use steps::table::{lacking, must, table, texts, Cell, Section};
 use steps::tally::{letter_index, letters_but, word};
 
@@ -64,13 +65,15 @@ impl Tally {
                 self.sorts[*sort][usize::from(number.saturating_sub(1))] += 1;
             }
             (Op::Record(_, Origin::Setup(rule)), _) => self.rule = *rule,
-            (Op::Step(call), Seen::Step { size, count }) => self.step(call, (*size, *count), pair),
+            (Op::Step(call), Seen::Step { size, count, places }) => {
+                self.step(call, (*size, *count), *places, pair);
+            }
             _ => {}
         }
     }
 
-    /// `before` is the record's M and count of processes before the step.
-    fn step(&mut self, call: &Call, before: (u32, u32), pair: &Pair) {
+    /// `before` is the record's M and count of processes before the step, `places` what was held.
+    fn step(&mut self, call: &Call, before: (u32, u32), places: Held, pair: &Pair) {
         let answer = pair.answer();
         let stub = pair.scene().map(|scene| scene.stub);
         self.steps.number(call.kind as usize, answer.number(), stub);
@@ -78,15 +81,15 @@ impl Tally {
             (_, 2) => self.wrong_sizes(call, before, pair),
             (Kind::Setup, 0) => self.session(before, pair),
             (Kind::Setup, _) => self.refused_setup(),
-            (_, 0) => self.accepted(call, pair),
+            (_, 0) => self.accepted(call, places, pair),
             _ => {}
         }
     }
 
-    fn accepted(&mut self, call: &Call, pair: &Pair) {
+    fn accepted(&mut self, call: &Call, places: Held, pair: &Pair) {
         if let Some((step, scene)) = call.step().zip(pair.scene()) {
             let answer = pair.answer().written(call.kind);
-            self.steps.answer(&step, &answer, scene.stub);
+            self.steps.answer(&step, &answer, places, scene.stub);
             if pair.book().is_some() {
                 self.steps.continues.take(&step, &answer, scene.stub, scene.registers);
             }
@@ -146,7 +149,8 @@ impl Tally {
 
     fn sections(&self) -> Vec<Section> {
         let sections = self.steps.sections(&NUMBERS);
-        let [mut by_number, by_type, by_answer, mut by_pc, mut by_letter] = sections;
+        let [mut by_number, by_type, by_answer, mut by_pc, mut by_letter, refused, held, by_elements] =
+            sections;
         by_number.row("outside change", must(&[self.outside]));
         by_number.row("register area replaced", must(&[self.areas]));
         by_pc.row("Stopped, the register area replaced", must(&self.steps.continues.replaced()));
@@ -158,6 +162,9 @@ impl Tally {
             by_answer,
             by_pc,
             by_letter,
+            refused,
+            held,
+            by_elements,
             self.by_window(),
             self.by_rule(),
             self.by_size(),

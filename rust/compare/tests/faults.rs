@@ -4,8 +4,8 @@ use compare::archive::{archive, Lent, Stub};
 use compare::op::{Call, Kind};
 use compare::record::Record;
 use compare::run::Runner;
-use reference::{BLOCK, PC, STOPPED, TRAP};
-use sanirvoq::ffi::{Entry, Process};
+use reference::{BLOCK, ELEMENTS, PC, PLACES, STOPPED, TRAP};
+use sanirvoq::ffi::{self, Entry, Process};
 
 /// What the run says of a stub, if anything.
 fn found(stub: Stub, steps: u64) -> Option<String> {
@@ -137,7 +137,7 @@ fn a_continue_that_removes() {
             if let Some(entry) = entry_at(lent, index).filter(|_| stopped) {
                 entry.used = 0;
                 let (at, plain) = ((entry.site - base) as usize, entry.plain);
-                lent.memory[at..at + 2].copy_from_slice(&plain);
+                lent.memory[at..at + 2].copy_from_slice(&plain[..2]);
             }
             result
         })
@@ -216,7 +216,8 @@ fn records() {
             lent.record.target_mut().table.entries[1].plain[1] ^= 1;
         }),
         faulty!(|call, lent, number, _result| if is_served(call, lent, number) {
-            lent.record.target_mut().table.draft.elements[3].value ^= 1;
+            // The value of the fourth place, in whatever condition that is.
+            lent.record.raw_mut().places[7] ^= 1;
         }),
         faulty!(|call, lent, number, _result| if call.kind == Kind::Setup && number == 1 {
             lent.record.target_mut().size = 4;
@@ -224,7 +225,7 @@ fn records() {
         // A record that the independent stub cannot hold is compared whole.
         faulty!(|_call, lent, number, _result| {
             if number == 3 && lent.record.target().selected > 1 {
-                lent.record.target_mut().table.entries[7].elements[15].letter ^= 1;
+                lent.record.raw_mut().places[255] ^= 1;
             }
         }),
     ];
@@ -247,12 +248,17 @@ fn what_nobody_sees() {
         }
     });
     assert_eq!(found(accepted, 50_000), None);
-    let padding: Stub = faulty!(|call, lent, _number, _result| {
-        // The byte after `selected` is in no field.
-        let at = std::mem::offset_of!(sanirvoq::ffi::Target, selected) + 1;
-        lent.record.bytes_mut()[at] ^= call.fill;
+    // The byte after `selected` is in no field.
+    const PADDING: usize = std::mem::offset_of!(ffi::Target, selected) + 1;
+    let padding: Stub = faulty!(|call, lent, number, _result| if number == 0 {
+        lent.record.bytes_mut()[PADDING] ^= call.fill;
     });
     assert_eq!(found(padding, 50_000), None);
+    let unheld: Stub = faulty!(|_call, lent, number, _result| if number == 0 {
+        let held = held(lent.record);
+        lent.record.raw_mut().places[2 * held..].fill(0xffff_ffff);
+    });
+    assert_eq!(found(unheld, 50_000), None);
     let rerr: Stub = faulty!(|call, lent, number, _result| {
         if number == 0 && is_rerr(call, lent) {
             forget(lent);
@@ -263,6 +269,122 @@ fn what_nobody_sees() {
         forget(lent);
     });
     assert_eq!(found(refused, 50_000).as_deref(), Some("refused, but the record was changed"));
+    let every_byte: [Stub; 2] = [
+        faulty!(|_call, lent, number, _result| if number > 3 {
+            lent.record.bytes_mut()[PADDING] ^= 1;
+        }),
+        faulty!(|_call, lent, number, _result| if number > 3 {
+            lent.record.raw_mut().places[255] ^= 1;
+        }),
+    ];
+    for fault in every_byte {
+        assert_eq!(found(fault, 50_000).as_deref(), Some("refused, but the record was changed"));
+    }
+}
+
+/// The places that a sound record holds.
+fn held(record: &Record) -> usize {
+    let draft = record.target().table.draft;
+    let in_hand = if draft.active == 1 { usize::from(draft.count) } else { 0 };
+    (record.raw().first_place(ffi::ENTRIES) + in_hand).min(PLACES)
+}
+
+/// A Tcondbreak with this letter and nothing in its unused bytes.
+fn is_letter(call: &Call, letter: u8) -> bool {
+    is_type(call, 16) && call.input.get(5..) == Some(&[letter, 0, 0, 0, 0])
+}
+
+/// Faults in the pool: elements that are lost, moved wrongly, or given to another condition.
+#[test]
+fn places() {
+    let faults: [Stub; 4] = [
+        // b leaves the elements where they were in hand.
+        |call, lent| {
+            let before = lent.record.raw().places;
+            let result = archive(call, lent);
+            if is_letter(call, b'b') && is_served(call, lent, result as u8) {
+                lent.record.raw_mut().places = before;
+            }
+            result
+        },
+        // d leaves the elements of the others where they were.
+        |call, lent| {
+            let before = lent.record.raw().places;
+            let result = archive(call, lent);
+            if is_letter(call, b'd') && is_served(call, lent, result as u8) {
+                lent.record.raw_mut().places = before;
+            }
+            result
+        },
+        // The last place is lost.
+        faulty!(|_call, lent, number, _result| if number == 0 && held(lent.record) == PLACES {
+            lent.record.raw_mut().places[2 * PLACES - 1] ^= 1;
+        }),
+        // A refusal that drops the condition in hand gives it the places of another.
+        faulty!(|call, lent, number, _result| {
+            if is_type(call, 16) && number == 0 && is_rerr(call, lent) {
+                let planted = lent.record.raw().first_place(ffi::ENTRIES);
+                if planted > 0 {
+                    lent.record.raw_mut().places[2 * planted - 1] ^= 1;
+                }
+            }
+        }),
+    ];
+    for (i, fault) in faults.into_iter().enumerate() {
+        let found = found(fault, 200_000);
+        let known = ["the record differs", "Rerr, but the record was changed"];
+        assert!(found.as_deref().is_some_and(|what| known.contains(&what)), "fault {i}: {found:?}");
+    }
+}
+
+/// What an element is given in the place of its refusal: it is served, and the condition in hand
+/// stays as it was before.
+fn serve_anyway(call: &Call, lent: &mut Lent<'_>, when: fn(&Record) -> bool) -> u32 {
+    let (before, at_limit) = (lent.record.target().table.draft, when(lent.record));
+    let result = archive(call, lent);
+    if at_limit && is_type(call, 16) && lent.reply.starts_with(b"\x01count") {
+        lent.record.target_mut().table.draft = before;
+        lent.reply.copy_from_slice(&[17, 0, 0, 0, 0, 0, 0, 0, 0, 0]);
+    }
+    result
+}
+
+/// Other limits than 64 and 128.
+#[test]
+fn limits() {
+    let faults: [Stub; 4] = [
+        |call, lent| {
+            serve_anyway(call, lent, |record| {
+                usize::from(record.target().table.draft.count) == ELEMENTS && held(record) < PLACES
+            })
+        },
+        |call, lent| {
+            serve_anyway(call, lent, |record| {
+                usize::from(record.target().table.draft.count) < ELEMENTS && held(record) == PLACES
+            })
+        },
+        // A 64th element is refused.
+        |call, lent| {
+            let last = usize::from(lent.record.target().table.draft.count) == ELEMENTS - 1;
+            let result = archive(call, lent);
+            if last && is_letter(call, b'k') && is_served(call, lent, result as u8) {
+                lent.reply.copy_from_slice(b"\x01count\0\0\0\0");
+            }
+            result
+        },
+        // So is the 128th place.
+        |call, lent| {
+            let last = held(lent.record) == PLACES - 1;
+            let result = archive(call, lent);
+            if last && is_type(call, 16) && is_served(call, lent, result as u8) {
+                lent.reply.copy_from_slice(b"\x01count\0\0\0\0");
+            }
+            result
+        },
+    ];
+    for (i, fault) in faults.into_iter().enumerate() {
+        assert_eq!(found(fault, 200_000).as_deref(), Some("the reply differs"), "fault {i}");
+    }
 }
 
 /// Accepts a Tmput and stores nothing.

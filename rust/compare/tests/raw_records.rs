@@ -31,12 +31,12 @@ fn sessions(seed: u64, visit: &mut dyn FnMut(&Pair, &mut Maker)) {
 fn a_record_shows_what_is_held_of_it() {
     sessions(1, &mut |pair, _| {
         let scene = pair.scene().unwrap();
-        assert_eq!(held(scene.record.target()).as_ref(), Some(scene.stub));
+        assert_eq!(held(scene.record.raw()).as_ref(), Some(scene.stub));
         let mut turned = pair.record().clone();
         for bit in 0..8 * turned.bytes().len() {
             turned.bytes_mut()[bit / 8] ^= 1 << (bit % 8);
-            let same = held(turned.target()).as_ref() == Some(scene.stub);
-            assert_eq!(shows(turned.target(), scene.stub), same, "bit {bit}");
+            let same = held(turned.raw()).as_ref() == Some(scene.stub);
+            assert_eq!(shows(turned.raw(), scene.stub), same, "bit {bit}");
             turned.bytes_mut()[bit / 8] ^= 1 << (bit % 8);
         }
     });

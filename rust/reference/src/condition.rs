@@ -1,17 +1,14 @@
 //! Conditions in Reverse Polish: their elements, their depth and their value.
 
-use crate::list::List;
 use crate::record::Stub;
-use crate::ELEMENTS;
 
-#[derive(Debug, Clone, Copy, Default, PartialEq, Eq)]
+#[derive(Debug, Clone, Copy, PartialEq, Eq)]
 pub enum Element {
     /// `k`: 1 where the trapping pid is this one, else 0.
     Pid(u32),
     /// `p`: a 32-bit literal.
     Literal(u32),
     /// `*`: four plain bytes, low-order first.
-    #[default]
     Indirect,
     /// `&`: bit-wise and.
     And,
@@ -24,8 +21,6 @@ pub enum Element {
     /// `o`: logical or.
     Either,
 }
-
-pub type Elements = List<Element, ELEMENTS>;
 
 impl Element {
     /// The element of a letter and its val; val is unused for all but `k` and `p`.
@@ -68,7 +63,7 @@ impl Stub {
     /// Whether a condition is true for a trapping pid. A `*` that is not all in the window decides
     /// it at once. A list that is not well formed, which no fit record has, counts as true.
     pub fn holds(&self, memory: &[u8], elements: &[Element], pid: u32) -> bool {
-        let mut below: List<u32, ELEMENTS> = List::new();
+        let mut below = Vec::with_capacity(elements.len());
         let mut top = 1;
         for &element in elements {
             top = match element {

@@ -1,10 +1,12 @@
-//! An independent reference of the debug stub that document 01 describes, with request Two of 02 (a
-//! breakpoint survives a continue), and of the calls that document 02 adds.
+//! An independent reference of the debug stub that document 01 describes, with requests Two (a
+//! breakpoint survives a continue) and Seven (all elements share 128 places) of 02, and of the calls
+//! that document 02 adds.
 //!
 //! It is written from the papers alone and shares nothing with the product. The stub lives in a
 //! [`Stub`]; memory and the register area are lent to every step. A step is refused by a
 //! [`Refusal`], whose [`number`](Refusal::number) is that of 01's table; number 0 is `Ok`.
-//! A [`Book`] is the book of demand 3, kept beside a stub and knowing nothing of it.
+//! A [`Book`] is the book of demand 3, kept beside a stub and knowing nothing of it; [`Places`]
+//! counts from the same history how many places are held.
 
 #![forbid(unsafe_code)]
 
@@ -15,6 +17,7 @@ pub mod frame;
 mod image;
 mod list;
 mod message;
+mod places;
 mod program;
 mod record;
 mod request;
@@ -22,11 +25,12 @@ mod text;
 mod window;
 
 pub use book::{Book, Claim, Condition, Evaluation, Planted};
-pub use condition::{depth, Element, Elements};
+pub use condition::{depth, Element};
 pub use event::Verdict;
 pub use image::{differences, NotCompared, Run, LONGEST_IMAGE};
 pub use list::List;
 pub use message::{read, state_text, write, Message, Reason};
+pub use places::Places;
 pub use program::{body_length, Output, Session};
 pub use record::{fit, Breakpoint, Draft, Process, Refusal, Stub};
 pub use text::{read_text, write_text, NotText, TextPacket, LONGEST_TEXT};
@@ -41,8 +45,10 @@ pub const PC: usize = 132;
 pub const TRAP: [u8; 2] = [0x02, 0x90];
 /// The breakpoints that a table has room for.
 pub const ENTRIES: usize = 8;
-/// The elements that a condition has room for.
-pub const ELEMENTS: usize = 16;
+/// The elements that one condition may have.
+pub const ELEMENTS: usize = 64;
+/// The elements that all conditions together may have, the one in hand among them.
+pub const PLACES: usize = 128;
 /// The processes that a record has room for.
 pub const PROCESSES: usize = 4;
 /// The highest id of a breakpoint.

@@ -1,8 +1,8 @@
 //! The target record, setup, and when a record is fit.
 
-use crate::condition::{depth, Elements};
+use crate::condition::{depth, Element};
 use crate::list::List;
-use crate::{BLOCK, ENTRIES, PROCESSES, READY, STOPPED, TRAP};
+use crate::{BLOCK, ELEMENTS, ENTRIES, PLACES, PROCESSES, READY, STOPPED, TRAP};
 
 /// Why a step was refused; the numbers are those of 01's table.
 #[derive(Debug, Clone, Copy, PartialEq, Eq)]
@@ -39,20 +39,20 @@ pub struct Process {
     pub wanted: bool,
 }
 
-#[derive(Debug, Clone, Copy, PartialEq, Eq)]
+#[derive(Debug, Clone, PartialEq, Eq)]
 pub struct Breakpoint {
     pub id: u8,
     pub site: u32,
     /// What the program has at the site, where memory holds the trap.
     pub plain: [u8; 2],
-    pub elements: Elements,
+    pub elements: Vec<Element>,
 }
 
 /// The condition in hand.
-#[derive(Debug, Clone, Copy, PartialEq, Eq)]
+#[derive(Debug, Clone, PartialEq, Eq)]
 pub struct Draft {
     pub id: u8,
-    pub elements: Elements,
+    pub elements: Vec<Element>,
 }
 
 #[derive(Debug, Clone, Default, PartialEq, Eq)]
@@ -136,6 +136,17 @@ impl Stub {
         self.table.iter().position(|slot| slot.as_ref().is_some_and(same))
     }
 
+    /// The conditions: those of the breakpoints, then the one in hand.
+    fn conditions(&self) -> impl Iterator<Item = &Vec<Element>> {
+        let planted = self.table.iter().flatten().map(|entry| &entry.elements);
+        planted.chain(self.draft.as_ref().map(|draft| &draft.elements))
+    }
+
+    /// The places that are held: one for each element of each condition.
+    pub fn held(&self) -> usize {
+        self.conditions().map(Vec::len).sum()
+    }
+
     /// The free entry of the lowest index.
     pub fn free_entry(&self) -> Option<usize> {
         self.table.iter().position(Option::is_none)
@@ -157,15 +168,21 @@ fn pids_fit(processes: &[Process]) -> bool {
     !processes.is_empty() && processes.iter().enumerate().all(fits)
 }
 
-/// Whether the record is fit over this memory. Of 01's list the types leave these to test; counts
-/// past their room, an id over 255 and a value at `*` or an operator cannot be held.
+/// Whether the record is fit over this memory. Of 01's list the types leave these to test; an id
+/// over 255 and a value at `*` or an operator cannot be held.
 pub fn fit(stub: &Stub, memory: &[u8]) -> bool {
     window_fits(stub.base, stub.size)
         && pids_fit(&stub.processes)
         && stub.processes.iter().all(|process| process.state != STOPPED || !process.wanted)
+        && places_fit(stub)
         && table_fits(stub, memory)
         && stub.current.is_none_or(|pid| stub.listed(pid).is_some())
         && stub.draft.as_ref().is_none_or(|draft| draft_fits(stub, draft))
+}
+
+/// No condition has more elements than it may, and all together find places.
+fn places_fit(stub: &Stub) -> bool {
+    stub.conditions().all(|elements| elements.len() <= ELEMENTS) && stub.held() <= PLACES
 }
 
 /// Ids and sites differ; every site holds its trap; every condition is well formed.

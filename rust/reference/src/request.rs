@@ -1,10 +1,10 @@
 //! Requests: decided by their first byte, refused with Rerr in the order of 01.
 
-use crate::condition::{depth, Element, Elements};
+use crate::condition::{depth, Element};
 use crate::event::exact;
 use crate::message::{Message, Reason};
 use crate::record::{Breakpoint, Draft, Refusal, Stub};
-use crate::{word, BLOCK, ELEMENTS, LAST_ID, MESSAGE, PC, READY, STOPPED};
+use crate::{word, BLOCK, ELEMENTS, LAST_ID, MESSAGE, PC, PLACES, READY, STOPPED};
 
 type Answer = Result<Message, Reason>;
 
@@ -185,15 +185,17 @@ impl Stub {
             return Err(Reason::Inval);
         }
         self.free_entry().ok_or(Reason::Count)?;
-        self.draft = Some(Draft { id: val as u8, elements: Elements::new() });
+        self.draft = Some(Draft { id: val as u8, elements: Vec::new() });
         Ok(())
     }
 
-    /// An element: another letter or nothing in hand, inval; a 17th, count; too few values, inval.
+    /// An element: another letter or nothing in hand, inval; the 65th of its condition or no place
+    /// left, count; too few values, inval.
     fn join(&mut self, element: Option<Element>) -> Result<(), Reason> {
         let element = element.ok_or(Reason::Inval)?;
+        let all_held = self.held() >= PLACES;
         let draft = self.draft.as_mut().ok_or(Reason::Inval)?;
-        if draft.elements.len() == ELEMENTS {
+        if draft.elements.len() >= ELEMENTS || all_held {
             return Err(Reason::Count);
         }
         depth(&draft.elements).and_then(|depth| element.after(depth)).ok_or(Reason::Inval)?;
@@ -203,7 +205,8 @@ impl Stub {
 
     /// b: nothing in hand, odd or outside site, site taken, or depth not 1: inval.
     fn set(&mut self, memory: &mut [u8], site: u32) -> Result<(), Reason> {
-        let Draft { id, elements } = self.draft.ok_or(Reason::Inval)?;
+        // Taken out of hand at once: what is refused here drops it too.
+        let Draft { id, elements } = self.draft.take().ok_or(Reason::Inval)?;
         let free = site.is_multiple_of(2) && self.at_site(site).is_none();
         if !free || depth(&elements) != Some(1) {
             return Err(Reason::Inval);
@@ -211,7 +214,6 @@ impl Stub {
         let index = self.free_entry().ok_or(Reason::Inval)?;
         let entry = Breakpoint { id, site, plain: [0; 2], elements };
         self.table[index] = Some(self.plant(memory, entry).ok_or(Reason::Inval)?);
-        self.draft = None;
         Ok(())
     }
 }

@@ -4,7 +4,7 @@
 mod common;
 
 use common::*;
-use reference::{Book, Evaluation, Reason, Session, Verdict};
+use reference::{Book, Evaluation, Places, Reason, Session, Verdict};
 
 fn worked_book() -> Book {
     let s = Session::worked();
@@ -111,4 +111,34 @@ fn the_book_evaluates_up_to_the_first_read_outside() {
     assert_eq!(book.evaluated(5, 4_096), Some(first));
     assert_eq!(book.trap(5, &block(0, 4_096), Verdict::Stop(1)), Ok(()));
     assert_eq!(book.stopped(), [5]);
+}
+
+/// The places held are told from requests and replies: what joined, less what went.
+#[test]
+fn places_are_counted_from_the_history() {
+    let mut places = Places::new();
+    let held = |places: &mut Places, letter, val, answer| {
+        places.request(&cond(letter, val), &answer);
+        places.held()
+    };
+    let (done, no) = (reply(17, &[]), rerr(Reason::Inval));
+    assert_eq!(held(&mut places, b'n', 4, done), 0);
+    assert_eq!(held(&mut places, b'k', 7, done), 1);
+    assert_eq!(held(&mut places, b'a', 0, done), 2);
+    assert_eq!(held(&mut places, b'b', 4_104, done), 2);
+    assert_eq!(held(&mut places, b'n', 5, done), 2);
+    assert_eq!(held(&mut places, b'p', 1, done), 3);
+    assert_eq!(held(&mut places, b'd', 9, no), 3, "a refused d drops nothing");
+    assert_eq!(held(&mut places, b'n', 6, done), 2, "replaced");
+    assert_eq!(held(&mut places, b'p', 1, done), 3);
+    assert_eq!(held(&mut places, b'z', 1, no), 2, "dropped");
+    assert_eq!(held(&mut places, b'n', 6, done), 2);
+    assert_eq!(held(&mut places, b'p', 1, done), 3);
+    assert_eq!(held(&mut places, b'd', 4, done), 1, "removed; what is in hand stays");
+    places.request(&mget(4_104, 20), &rerr(Reason::Count));
+    assert_eq!(places.held(), 1, "another request that is refused");
+    assert_eq!(held(&mut places, b'o', 0, done), 2);
+    assert_eq!(held(&mut places, b'b', 4_104, done), 2);
+    places.restart();
+    assert_eq!(places.held(), 0);
 }

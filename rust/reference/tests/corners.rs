@@ -137,7 +137,7 @@ fn a_trap_in_memory_is_no_obstacle() {
     let mut s = Session::worked();
     ask(&mut s, mput(4_104, &[0x02, 0x90]));
     plant(&mut s, 1, &[], 4_104);
-    assert_eq!(s.stub.table[0].unwrap().plain, [0x02, 0x90]);
+    assert_eq!(s.stub.table[0].as_ref().unwrap().plain, [0x02, 0x90]);
     ask(&mut s, cond(b'd', 1));
     assert_eq!(s.memory[8..10], [0x02, 0x90]);
 }
@@ -154,7 +154,7 @@ fn beginning_a_condition() {
     assert_eq!(ask(&mut s, cond(b'n', 7)), DONE);
     assert_eq!(ask(&mut s, cond(b'k', 7)), DONE);
     assert_eq!(ask(&mut s, cond(b'n', 7)), DONE, "the id in hand begins anew");
-    assert_eq!(s.stub.draft.unwrap().elements.len(), 0);
+    assert_eq!((s.stub.draft.as_ref().unwrap().elements.len(), s.stub.held()), (0, 0));
 }
 
 #[test]
@@ -169,7 +169,7 @@ fn a_full_table() {
     ask(&mut s, cond(b'd', 4));
     ask(&mut s, cond(b'd', 2));
     plant(&mut s, 9, &[], 4_120);
-    assert_eq!(s.stub.table[2].unwrap().id, 9, "the free entry of the lowest index");
+    assert_eq!(s.stub.table[2].as_ref().unwrap().id, 9, "the free entry of the lowest index");
     assert_eq!(s.stub.table[4], None);
 }
 
@@ -183,16 +183,67 @@ fn elements_in_order_of_refusals() {
         assert_eq!(ask(&mut s, cond(letter, 0)), rerr(Inval));
         assert_eq!(s.stub.draft, None);
     }
-    // A 17th is count, with the values it needs or without.
-    for letter in *b"kp*a" {
+    // A 65th is count, with the values it needs or without.
+    for letter in *b"kp*&=!ao" {
         ask(&mut s, cond(b'n', 1));
-        for _ in 0..16 {
+        for _ in 0..64 {
             assert_eq!(ask(&mut s, cond(b'*', 0)), DONE);
         }
+        assert_eq!(s.stub.held(), 64);
         assert_eq!(ask(&mut s, cond(letter, 0)), rerr(Count));
-        assert_eq!(s.stub.draft, None);
+        assert_eq!((s.stub.draft.as_ref(), s.stub.held()), (None, 0));
     }
-    plant(&mut s, 1, &[(b'*', 0); 16], 4_104);
+    plant(&mut s, 1, &[(b'*', 0); 64], 4_104);
+}
+
+/// A session in which breakpoints 1 and 2 hold all 128 places.
+fn all_held() -> Session {
+    let mut s = Session::worked();
+    plant(&mut s, 1, &[(b'*', 0); 64], 4_104);
+    plant(&mut s, 2, &[(b'k', 7), (b'a', 0)].repeat(32), 4_106);
+    assert_eq!(s.stub.held(), 128);
+    s
+}
+
+#[test]
+fn an_element_with_no_place_left_is_count() {
+    let mut s = all_held();
+    let full = s.clone();
+    // Nothing in hand comes first; n needs no place; values that lack come last.
+    for letter in *b"kp*&=!ao" {
+        refused(&mut s, cond(letter, 0), Inval);
+        assert_eq!(ask(&mut s, cond(b'n', 3)), DONE);
+        assert_eq!(s.stub.held(), 128);
+        assert_eq!(ask(&mut s, cond(letter, 0)), rerr(Count));
+        assert_eq!(s, full);
+    }
+    plant(&mut s, 3, &[], 4_108);
+    assert_eq!((trap(&mut s, 5, 4_108), s.stub.held()), (Ok(Verdict::Stop(3)), 128));
+    assert_eq!(trap(&mut s, 5, 4_106), Err(Refusal::Stopped));
+    assert_eq!(trap(&mut s, 7, 4_106), Ok(Verdict::Stop(2)));
+}
+
+#[test]
+fn places_are_given_back() {
+    // By d, with a condition in hand that then has room for what was refused.
+    let mut s = all_held();
+    ask(&mut s, cond(b'n', 3));
+    ask(&mut s, cond(b'd', 2));
+    assert_eq!(s.stub.held(), 64);
+    for i in 0..64 {
+        assert_eq!(ask(&mut s, cond(b'p', i)), DONE);
+    }
+    assert_eq!(s.stub.held(), 128);
+    // By n, which replaces what is in hand, and by a refusal that drops it.
+    assert_eq!((ask(&mut s, cond(b'n', 3)), s.stub.held()), (DONE, 64));
+    assert_eq!((ask(&mut s, cond(b'p', 9)), s.stub.held()), (DONE, 65));
+    assert_eq!((ask(&mut s, cond(b'd', 9)), s.stub.held()), (rerr(Inval), 65));
+    assert_eq!((ask(&mut s, cond(b'z', 0)), s.stub.held()), (rerr(Inval), 64));
+    // By a restart, those of the condition in hand too.
+    ask(&mut s, cond(b'n', 3));
+    ask(&mut s, cond(b'p', 9));
+    restart(&mut s);
+    assert_eq!(s.stub.held(), 0);
 }
 
 #[test]
@@ -220,7 +271,7 @@ fn letters_and_unused_bytes_come_first() {
     for request in dropping {
         s = held.clone();
         assert_eq!(ask(&mut s, request), rerr(Inval), "{request:02x?}");
-        s.stub.draft = held.stub.draft;
+        s.stub.draft.clone_from(&held.stub.draft);
         assert_eq!(s, held);
         assert_eq!(ask(&mut s, request), rerr(Inval));
         assert_eq!(s.stub.draft, None, "{request:02x?}");
@@ -402,7 +453,7 @@ fn restart_keeps_registers_and_other_states() {
     let states = [s.stub.processes[0].state, s.stub.processes[1].state];
     assert_eq!(states, [READY, 200]);
     assert!(!s.stub.processes[1].wanted);
-    assert_eq!((s.stub.current, s.stub.draft), (None, None));
+    assert_eq!((s.stub.current, s.stub.draft.as_ref()), (None, None));
     refused(&mut s, mget(0, 1), Pid);
 }
 

@@ -4,7 +4,7 @@ mod common;
 
 use common::*;
 use reference::{
-    body_length, fit, Breakpoint, Draft, Element, List, Process, Refusal, Session, Stub,
+    body_length, fit, Breakpoint, Draft, Element, Process, Refusal, Session, Stub, ELEMENTS, PLACES,
 };
 
 /// A number that is often near a bound.
@@ -17,14 +17,16 @@ fn number(rng: &mut Rng) -> u32 {
     }
 }
 
-fn elements(rng: &mut Rng) -> List<Element, 16> {
-    let count = rng.below(17);
-    let mut list = List::new();
-    for _ in 0..count {
-        let letter = b"kkpp*&=!ao"[rng.below(10) as usize];
-        list.push(Element::of(letter, number(rng)).unwrap());
+/// Mostly a few elements of any kind; else many that are well formed, up to too many.
+fn elements(rng: &mut Rng) -> Vec<Element> {
+    if rng.below(4) == 0 {
+        return vec![Element::Indirect; rng.below(70) as usize];
     }
-    list
+    let element = |rng: &mut Rng| {
+        let letter = b"kkpp*&=!ao"[rng.below(10) as usize];
+        Element::of(letter, number(rng)).unwrap()
+    };
+    (0..rng.below(17)).map(|_| element(rng)).collect()
 }
 
 /// A record of anything that the types can hold.
@@ -55,7 +57,7 @@ fn changed(rng: &mut Rng) -> Session {
         ask(&mut s, cond(b'n', 100));
     }
     let slot = rng.below(8) as usize;
-    match (rng.below(10), s.stub.table[slot].as_mut()) {
+    match (rng.below(11), s.stub.table[slot].as_mut()) {
         (0, Some(entry)) => entry.site = number(rng),
         (1, Some(entry)) => entry.id = rng.next() as u8 % 9,
         (2, Some(entry)) => entry.elements = elements(rng),
@@ -65,6 +67,7 @@ fn changed(rng: &mut Rng) -> Session {
         (6, _) => s.stub.current = Some(number(rng)),
         (7, _) => s.memory[rng.below(64) as usize] = rng.next() as u8,
         (8, _) => s.stub.processes[slot % 2].state = 8,
+        (9, _) => s.stub.table.iter_mut().flatten().for_each(|one| one.elements = elements(rng)),
         _ => {}
     }
     s
@@ -118,6 +121,8 @@ fn spoiled_records() {
         } else {
             assert!(was_fit && fit(&s.stub, &s.memory));
         }
+        let over = s.stub.table.iter().flatten().any(|one| one.elements.len() > ELEMENTS);
+        assert!(!was_fit || !over && s.stub.held() <= PLACES);
         assert!(number == 2 || (number == 3) != was_fit);
     }
     assert!([0, 2, 3, 4, 5, 6].iter().all(|&i| numbers[i] > 0), "{numbers:?}");

@@ -3,7 +3,7 @@
 mod common;
 
 use common::*;
-use reference::{fit, Breakpoint, Draft, Element, Elements, List, Refusal, Session, Stub};
+use reference::{fit, Breakpoint, Draft, Element, List, Refusal, Session, Stub};
 
 const TWO: [(u32, u32); 2] = [(5, 0x8000_1000), (7, 0x8000_2000)];
 
@@ -130,26 +130,41 @@ fn requests_replies_and_blocks_have_one_size() {
 }
 
 fn entry(id: u8, site: u32, elements: &[Element]) -> Option<Breakpoint> {
-    let elements = List::of(elements).unwrap();
-    Some(Breakpoint { id, site, plain: [0; 2], elements })
+    Some(Breakpoint { id, site, plain: [0; 2], elements: elements.to_vec() })
 }
 
 type Change = fn(&mut Session);
 
+/// Elements that are well formed, as many as asked for.
+fn stars(count: usize) -> Vec<Element> {
+    vec![Element::Indirect; count]
+}
+
+/// Conditions of so many elements for the two breakpoints and the one in hand.
+fn conditions(s: &mut Session, counts: [usize; 3]) {
+    for (slot, count) in s.stub.table.iter_mut().flatten().zip(counts) {
+        slot.elements = stars(count);
+    }
+    s.stub.draft.as_mut().unwrap().elements = stars(counts[2]);
+}
+
 /// Changes that leave the used session fit.
-const HARMLESS: [Change; 8] = [
+const HARMLESS: [Change; 11] = [
     |s| s.stub.table[0].as_mut().unwrap().plain = [0x02, 0x90],
     |s| s.stub.processes[0].state = 200,
     |s| s.stub.processes[0].address = s.stub.processes[1].address,
     |s| s.stub.current = None,
     |s| s.stub.draft = None,
     |s| s.memory[0] = 0xff,
-    |s| s.stub.draft = Some(Draft { id: 9, elements: List::of(&[Element::Pid(1); 16]).unwrap() }),
+    |s| s.stub.draft = Some(Draft { id: 9, elements: vec![Element::Pid(1); 64] }),
+    |s| conditions(s, [64, 64, 0]),
+    |s| conditions(s, [0, 64, 64]),
+    |s| conditions(s, [43, 42, 43]),
     |s| s.stub.table.swap(0, 7),
 ];
 
 /// Changes that spoil it, each by one rule.
-const SPOILING: [Change; 27] = [
+const SPOILING: [Change; 33] = [
     |s| s.stub.base += 2,
     |s| s.stub.base = 0,
     |s| s.stub.base = 4_100,
@@ -172,8 +187,8 @@ const SPOILING: [Change; 27] = [
     |s| s.stub.table[0] = entry(3, 4_104, &[Element::And]),
     |s| s.stub.table[0] = entry(3, 4_104, &[Element::Pid(5)]),
     |s| s.stub.table[0] = entry(3, 4_104, &[Element::Pid(5), Element::Both, Element::Either]),
-    |s| s.stub.draft = Some(Draft { id: 3, elements: Elements::new() }),
-    |s| s.stub.draft.as_mut().unwrap().elements = List::of(&[Element::Equal]).unwrap(),
+    |s| s.stub.draft = Some(Draft { id: 3, elements: vec![] }),
+    |s| s.stub.draft.as_mut().unwrap().elements = vec![Element::Equal],
     |s| {
         for (i, slot) in s.stub.table.iter_mut().enumerate().skip(2) {
             *slot = entry(100 + i as u8, 4_096 + 20 + 2 * i as u32, &[]);
@@ -188,6 +203,12 @@ const SPOILING: [Change; 27] = [
         s.stub.processes = List::new();
         s.registers.clear();
     },
+    |s| conditions(s, [65, 0, 0]),
+    |s| conditions(s, [0, 65, 0]),
+    |s| conditions(s, [0, 0, 65]),
+    |s| conditions(s, [64, 64, 1]),
+    |s| conditions(s, [1, 64, 64]),
+    |s| conditions(s, [43, 43, 43]),
 ];
 
 #[test]

@@ -1,7 +1,7 @@
 //! The calls into the archive: the crate's only unsafe code. A step called so answers as the archive
 //! does, in one number; [`Stub`](crate::Stub) answers with enums.
 
-use crate::ffi::{self, Comparison, Fields, Found, FrameFed, FrameReader, Run, Target};
+use crate::ffi::{self, Comparison, Fields, Found, FrameFed, FrameReader, Record, Run};
 use crate::ffi::{TextFound, TextPacket, TextWritten};
 use crate::{BLOCK, MESSAGE};
 use core::slice;
@@ -75,7 +75,7 @@ impl Kind {
 /// that is there already would be a race with other readers.
 pub struct Lent<'a> {
     /// The record.
-    pub record: &'a mut Target,
+    pub record: &'a mut Record,
     /// The memory of the window.
     pub memory: &'a mut [u8],
     /// The register area.

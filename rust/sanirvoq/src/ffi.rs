@@ -7,18 +7,10 @@ use core::mem::{align_of, offset_of, size_of};
 pub const PROCESSES: usize = 4;
 /// The breakpoints that a record has room for.
 pub const ENTRIES: usize = 8;
-/// The elements that a condition has room for.
-pub const ELEMENTS: usize = 16;
-
-/// One element of a condition.
-#[repr(C)]
-#[derive(Debug, Clone, Copy, Default, PartialEq, Eq)]
-pub struct Element {
-    /// One of `k p * & = ! a o`.
-    pub letter: u8,
-    /// The value of `k` and `p`, else 0.
-    pub value: u32,
-}
+/// The elements that one condition may have.
+pub const ELEMENTS: usize = 64;
+/// The elements that all conditions together may have.
+pub const PLACES: usize = 128;
 
 /// A breakpoint.
 #[repr(C)]
@@ -28,14 +20,12 @@ pub struct Entry {
     pub used: u8,
     /// Its id.
     pub id: u8,
-    /// The two bytes of the program under the trap.
-    pub plain: [u8; 2],
+    /// How many elements its condition has; they stand in [`Record::places`].
+    pub count: u8,
+    /// The first two are the bytes of the program under the trap.
+    pub plain: [u8; 4],
     /// The address of its trap.
     pub site: u32,
-    /// How many of the elements there are.
-    pub count: u32,
-    /// Its condition.
-    pub elements: [Element; ELEMENTS],
 }
 
 /// The condition in hand.
@@ -46,10 +36,8 @@ pub struct Draft {
     pub active: u8,
     /// The id that its breakpoint will have.
     pub id: u8,
-    /// How many of the elements there are.
-    pub count: u32,
-    /// Its elements so far.
-    pub elements: [Element; ELEMENTS],
+    /// How many elements it has so far; they stand in [`Record::places`].
+    pub count: u8,
 }
 
 /// The breakpoints and the condition in hand.
@@ -76,7 +64,7 @@ pub struct Process {
     pub wanted: u8,
 }
 
-/// The record.
+/// What the record has besides its places.
 #[repr(C)]
 #[derive(Debug, Clone, Copy, Default, PartialEq, Eq)]
 pub struct Target {
@@ -94,6 +82,25 @@ pub struct Target {
     pub current: u32,
     /// The breakpoints.
     pub table: Table,
+}
+
+/// The record. [`Record::condition`] and [`Record::in_hand`] show the conditions that it has.
+#[repr(C)]
+#[derive(Debug, Clone, Copy, PartialEq, Eq)]
+pub struct Record {
+    /// All but the elements of conditions.
+    pub target: Target,
+    /// Two words a place: the letter of an element, then the value of `k` and `p`, else 0. The
+    /// elements of the used entries stand here in the table's order, then those of the condition in
+    /// hand. What the places after them hold is of no account.
+    pub places: [u32; 2 * PLACES],
+}
+
+impl Default for Record {
+    /// The empty record.
+    fn default() -> Self {
+        Self { target: Target::default(), places: [0; 2 * PLACES] }
+    }
 }
 
 /// A message by its type byte and its fields; see the header for which fields a type uses.
@@ -234,8 +241,15 @@ pub struct FrameFed {
 
 // The layout, as the header asserts it.
 const _: () = assert!(size_of::<FrameReader>() == 24 && size_of::<FrameFed>() == 48);
-const _: () = assert!(size_of::<Target>() == 1324 && align_of::<Target>() == 4);
+const _: () = assert!(size_of::<Entry>() == 12 && offset_of!(Entry, count) == 2);
+const _: () = assert!(offset_of!(Entry, plain) == 3 && offset_of!(Entry, site) == 8);
+const _: () = assert!(size_of::<Draft>() == 3 && size_of::<Process>() == 12);
+const _: () = assert!(size_of::<Table>() == 100 && offset_of!(Table, draft) == 96);
+const _: () = assert!(size_of::<Target>() == 168 && offset_of!(Target, processes) == 12);
+const _: () = assert!(offset_of!(Target, selected) == 60 && offset_of!(Target, current) == 64);
 const _: () = assert!(offset_of!(Target, table) == 68);
+const _: () = assert!(size_of::<Record>() == 1192 && align_of::<Record>() == 4);
+const _: () = assert!(offset_of!(Record, places) == 168);
 const _: () = assert!(size_of::<Fields>() == 20);
 const _: () = assert!(size_of::<Comparison>() == 8);
 const _: () = assert!(size_of::<TextPacket>() == 16 && align_of::<TextPacket>() == 4);
@@ -257,7 +271,7 @@ macro_rules! steps {
 }
 
 steps!((
-    target: *mut Target,
+    record: *mut Record,
     memory: *mut u8,
     memory_length: usize,
     registers: *mut u8,

@@ -1,7 +1,7 @@
 //! The steps of the stub over slices.
 
 use crate::call::{Kind, Lent};
-use crate::ffi::{Process, Target};
+use crate::ffi::{Process, Record, Target};
 use crate::Refusal;
 
 /// What the kernel is to do with a process that ran into a trap.
@@ -25,14 +25,15 @@ pub enum Served {
     ReplyAndPass([u8; 2]),
 }
 
-/// The stub's record: the window's place, the processes, the breakpoints. It holds no memory and no
-/// registers; the kernel lends both to every step. A step that is refused changes nothing, but for
-/// a setup, which leaves the record empty.
+/// The stub's record: the window's place, the processes, the breakpoints and their conditions. It
+/// holds no memory and no registers; the kernel lends both to every step. A step that is refused
+/// changes nothing, but for a setup, which leaves the record empty.
 ///
-/// The default is the empty record, which every step but a setup refuses.
+/// Two stubs are equal where their records are, the places that no condition holds among them. The
+/// default is the empty record, which every step but a setup refuses.
 #[derive(Debug, Clone, Default, PartialEq, Eq)]
 pub struct Stub {
-    record: Target,
+    record: Record,
 }
 
 impl Stub {
@@ -50,7 +51,8 @@ impl Stub {
         Ok(stub)
     }
 
-    /// The same over this record, whatever it holds. A refused setup leaves it empty.
+    /// The same over this record, whatever it holds. A refused setup leaves it empty. No place is
+    /// held afterwards; what stands in the places stays.
     pub fn setup_in_place(
         &mut self,
         base: u32,
@@ -61,8 +63,8 @@ impl Stub {
     ) -> Result<(), Refusal> {
         // More than the record has room for is for the archive to refuse, by the count.
         let count = u32::try_from(processes.len()).unwrap_or(u32::MAX);
-        self.record = Target { base, size, count, ..Target::default() };
-        for (process, &(pid, address)) in self.record.processes.iter_mut().zip(processes) {
+        self.record.target = Target { base, size, count, ..Target::default() };
+        for (process, &(pid, address)) in self.record.target.processes.iter_mut().zip(processes) {
             *process = Process { pid, address, ..Process::default() };
         }
         answer(self.lent(memory, registers).call(Kind::Setup)).map(drop)
@@ -133,12 +135,12 @@ impl Stub {
     }
 
     /// A stub of any record: one that is not fit is refused by every step.
-    pub fn from_raw(record: Target) -> Self {
+    pub fn from_raw(record: Record) -> Self {
         Self { record }
     }
 
-    /// The record.
-    pub fn raw(&self) -> &Target {
+    /// The record; its methods show the conditions that it has.
+    pub fn raw(&self) -> &Record {
         &self.record
     }
 

@@ -3,7 +3,7 @@
 mod common;
 
 use common::*;
-use sanirvoq::ffi::{Element, Entry, Target};
+use sanirvoq::ffi::{Entry, Record, Target};
 use sanirvoq::{Refusal, Served, Stub};
 
 /// A session with breakpoints 3 and 4, a condition in hand, a current and a Stopped process.
@@ -43,7 +43,7 @@ fn every_step(session: &Session) -> [Result<(), Refusal>; 5] {
 }
 
 /// The session with its record changed.
-fn changed(change: impl FnOnce(&mut Target)) -> Session {
+fn changed(change: impl FnOnce(&mut Record)) -> Session {
     let mut s = used();
     let mut record = *s.stub.raw();
     change(&mut record);
@@ -59,7 +59,7 @@ fn a_used_session_is_fit() {
 #[test]
 fn lent_buffers_have_one_size() {
     for (memory, registers) in [(63, 272), (68, 272), (0, 272), (64, 271), (64, 273), (64, 0)] {
-        let mut s = changed(|record| record.current = 6);
+        let mut s = changed(|record| record.target.current = 6);
         s.memory.resize(memory, 0);
         s.registers.resize(registers, 0);
         assert_eq!(every_step(&s), [Err(Refusal::Size); 5], "{memory} {registers}");
@@ -68,7 +68,7 @@ fn lent_buffers_have_one_size() {
 
 #[test]
 fn requests_replies_and_blocks_have_one_size() {
-    let mut s = changed(|record| record.current = 6);
+    let mut s = changed(|record| record.target.current = 6);
     let before = s.clone();
     let Session { stub, memory, registers } = &mut s;
     for length in [0, 9, 11, 135, 137] {
@@ -85,34 +85,53 @@ fn requests_replies_and_blocks_have_one_size() {
     assert_eq!(s, before);
 }
 
-/// Changes that spoil the record, each by one rule.
-const SPOILING: [fn(&mut Target); 26] = [
-    |t| t.base += 2,
-    |t| t.base = 0,
-    |t| t.base = u32::MAX - 3,
-    |t| t.processes[0].pid = 0,
-    |t| t.processes[0].pid = 7,
-    |t| t.processes[0].pid = 6,
-    |t| t.processes[0].wanted = 2,
-    |t| t.processes[1].wanted = 1,
-    |t| t.selected = 2,
-    |t| t.current = 6,
-    |t| t.table.entries[0].used = 2,
-    |t| t.table.entries[0].id = 4,
-    |t| t.table.entries[0].site = 4_105,
-    |t| t.table.entries[0].site = 4_106,
-    |t| t.table.entries[0].site = 4_108,
-    |t| t.table.entries[0].site = 4_160,
-    |t| t.table.entries[0].site = 4_094,
-    |t| t.table.entries[0].site = u32::MAX,
-    |t| t.table.entries[0].count = 1,
-    |t| t.table.entries[1].count = 17,
-    |t| t.table.entries[1].count = u32::MAX,
-    |t| t.table.entries[1].elements[0].letter = b'z',
-    |t| t.table.entries[1].elements[1].value = 1,
-    |t| t.table.draft.active = 2,
-    |t| t.table.draft.id = 3,
-    |t| t.table.draft.elements[0] = Element { letter: b'=', value: 0 },
+/// Gives entries 0 and 1 and the condition in hand so many elements, all of them `*`.
+fn stars(record: &mut Record, counts: [u8; 3]) {
+    record.places.chunks_exact_mut(2).for_each(|place| place.copy_from_slice(&[b'*'.into(), 0]));
+    let table = &mut record.target.table;
+    (table.entries[0].count, table.entries[1].count, table.draft.count) =
+        (counts[0], counts[1], counts[2]);
+}
+
+/// Changes that spoil the record, each by one rule. Places 0 and 1 are those of entry 1, place 2 that
+/// of the condition in hand.
+const SPOILING: [fn(&mut Record); 36] = [
+    |r| r.target.base += 2,
+    |r| r.target.base = 0,
+    |r| r.target.base = u32::MAX - 3,
+    |r| r.target.processes[0].pid = 0,
+    |r| r.target.processes[0].pid = 7,
+    |r| r.target.processes[0].pid = 6,
+    |r| r.target.processes[0].wanted = 2,
+    |r| r.target.processes[1].wanted = 1,
+    |r| r.target.selected = 2,
+    |r| r.target.current = 6,
+    |r| r.target.table.entries[0].used = 2,
+    |r| r.target.table.entries[0].id = 4,
+    |r| r.target.table.entries[0].site = 4_105,
+    |r| r.target.table.entries[0].site = 4_106,
+    |r| r.target.table.entries[0].site = 4_108,
+    |r| r.target.table.entries[0].site = 4_160,
+    |r| r.target.table.entries[0].site = 4_094,
+    |r| r.target.table.entries[0].site = u32::MAX,
+    |r| r.target.table.entries[0].count = 1,
+    |r| r.target.table.entries[1].count = 1,
+    |r| r.target.table.entries[1].count = 128,
+    |r| r.target.table.entries[1].count = 255,
+    |r| r.target.table.draft.active = 2,
+    |r| r.target.table.draft.id = 3,
+    |r| r.places[0] = b'z'.into(),
+    |r| r.places[0] = u32::from(b'k') + 256,
+    |r| r.places[2] |= 1 << 31,
+    |r| r.places[3] = 1,
+    |r| (r.places[4], r.places[5]) = (b'='.into(), 0),
+    |r| stars(r, [65, 0, 0]),
+    |r| stars(r, [0, 65, 0]),
+    |r| stars(r, [0, 0, 65]),
+    |r| stars(r, [64, 64, 1]),
+    |r| stars(r, [1, 64, 64]),
+    |r| stars(r, [43, 43, 43]),
+    |r| stars(r, [255, 255, 255]),
 ];
 
 #[test]
@@ -123,12 +142,16 @@ fn a_spoiled_record_is_refused_by_every_step() {
 }
 
 /// Changes of what no rule speaks of.
-const HARMLESS: [fn(&mut Target); 5] = [
-    |t| t.processes[0].state = 200,
-    |t| t.processes[3].pid = 7,
-    |t| t.selected = 0,
-    |t| t.table.entries[0].plain = [0x02, 0x90],
-    |t| t.table.entries[7] = Entry { id: 4, site: 4_105, count: 99, ..Entry::default() },
+const HARMLESS: [fn(&mut Record); 9] = [
+    |r| r.target.processes[0].state = 200,
+    |r| r.target.processes[3].pid = 7,
+    |r| r.target.selected = 0,
+    |r| r.target.table.entries[0].plain = [0x02, 0x90, 0xff, 0xff],
+    |r| r.target.table.entries[7] = Entry { id: 4, site: 4_105, count: 99, ..Entry::default() },
+    |r| r.places[6..].fill(u32::MAX),
+    |r| stars(r, [64, 64, 0]),
+    |r| stars(r, [0, 64, 64]),
+    |r| stars(r, [43, 42, 43]),
 ];
 
 #[test]
@@ -149,56 +172,53 @@ fn an_outside_change_of_a_trap_is_refused_until_it_is_put_back() {
 
 #[test]
 fn any_bytes_are_a_record() {
-    let spoiled = Element { letter: 0xff, value: u32::MAX };
     let s = changed(|record| {
-        record.table.entries = [Entry {
-            used: 0xff,
-            id: 0xff,
-            plain: [0xff; 2],
-            site: u32::MAX,
-            count: u32::MAX,
-            elements: [spoiled; 16],
-        }; 8];
-        record.table.draft.count = u32::MAX;
+        let site = u32::MAX;
+        record.target.table.entries =
+            [Entry { used: 0xff, id: 0xff, count: 0xff, plain: [0xff; 4], site }; 8];
+        record.target.table.draft.count = 0xff;
+        record.places.fill(u32::MAX);
     });
     assert_eq!(every_step(&s), [Err(Refusal::Unfit); 5]);
-    let mut s = changed(|record| record.count = u32::MAX);
+    let mut s = changed(|record| record.target.count = u32::MAX);
     assert_eq!(every_step(&s), [Err(Refusal::Size); 5]);
     s = Session { stub: Stub::default(), memory: vec![], registers: vec![] };
     assert_eq!(every_step(&s), [Err(Refusal::Unfit); 5]);
 }
 
-/// A setup over a record that was in use, with buffers of these sizes, and the record it leaves.
+/// A setup over a record that was in use, with buffers of these sizes, and what it leaves of the
+/// record besides the places, which it leaves as they are.
 fn setup(
     (base, size): (u32, u32),
     processes: &[(u32, u32)],
     memory: usize,
     registers: usize,
-) -> (Result<(), Refusal>, Stub) {
+) -> (Result<(), Refusal>, Target) {
     let (mut memory, mut registers) = (vec![0x11; memory], vec![0x22; registers]);
     let mut stub = used().stub;
+    let places = stub.raw().places;
     let done = stub.setup_in_place(base, size, processes, &mut memory, &mut registers);
     assert!(memory.iter().all(|&byte| byte == 0x11) && registers.iter().all(|&byte| byte == 0x22));
+    assert_eq!(stub.raw().places, places);
     let made = Stub::setup(base, size, processes, &mut memory, &mut registers);
-    assert_eq!(made, done.map(|()| stub.clone()));
-    (done, stub)
+    assert_eq!(made.map(|made| made.raw().target), done.map(|()| stub.raw().target));
+    (done, stub.raw().target)
 }
 
 #[test]
 fn an_accepted_setup_makes_the_whole_record() {
     for (base, size) in [(B, 4), (B, 65_536), (0xffff_fffc, 4), (0xffff_0000, 65_536)] {
-        let (done, stub) = setup((base, size), &TWO, size as usize, 272);
-        let mut record = Target { base, size, count: 2, ..Target::default() };
-        for (process, (pid, address)) in record.processes.iter_mut().zip(TWO) {
+        let mut target = Target { base, size, count: 2, ..Target::default() };
+        for (process, (pid, address)) in target.processes.iter_mut().zip(TWO) {
             (process.pid, process.address, process.state) = (pid, address, 2);
         }
-        assert_eq!((done, *stub.raw()), (Ok(()), record));
+        assert_eq!(setup((base, size), &TWO, size as usize, 272), (Ok(()), target));
     }
 }
 
 #[test]
 fn a_broken_setup_rule_leaves_the_empty_record() {
-    let empty = (Err(Refusal::Setup), Stub::from_raw(Target::default()));
+    let empty = (Err(Refusal::Setup), Target::default());
     let windows = [
         (B, 0),
         (B, 2),
@@ -222,7 +242,7 @@ fn a_broken_setup_rule_leaves_the_empty_record() {
 
 #[test]
 fn a_setup_over_wrong_buffers_leaves_the_empty_record() {
-    let empty = (Err(Refusal::Size), Stub::default());
+    let empty = (Err(Refusal::Size), Target::default());
     for (memory, registers) in [(63, 272), (68, 272), (0, 272), (64, 271), (64, 408), (64, 0)] {
         assert_eq!(setup((B, 64), &TWO, memory, registers), empty, "{memory} {registers}");
     }

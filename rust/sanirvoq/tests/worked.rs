@@ -74,7 +74,8 @@ fn case_8_makes_current() {
     let answer = [7, 0x38, 0x30, 0x30, 0x30, 0x31, 0x30, 0x30, 0x30, 0];
     assert_eq!(s.ask(with(6, 5, &[])), answer);
     assert_eq!(s.ask(with(6, 6, &[])), rerr("pid"));
-    assert_eq!((s.stub.raw().selected, s.stub.raw().current), (1, 5));
+    let target = &s.stub.raw().target;
+    assert_eq!((target.selected, target.current), (1, 5));
 }
 
 #[test]

@@ -8,10 +8,14 @@ use reference::{MESSAGE, PC, STOPPED};
 /// Tproc, Tstatus, Trnote, Tstop and Tstart.
 const PID_REQUESTS: [u8; 5] = [6, 8, 10, 12, 14];
 
+/// How often each of the things below happens. The long conditions and the full pool take many steps
+/// each, so they are rare.
+const WEIGHTS: [u32; 17] = [80, 20, 26, 2, 2, 8, 32, 24, 96, 22, 18, 56, 8, 34, 2, 4, 1];
+
 impl Burst<'_> {
     /// One thing that may happen in a session.
     pub fn act(&mut self) {
-        match self.rng.weighted(&[40, 10, 13, 1, 3, 4, 16, 12, 48, 11, 9, 28, 4, 14, 1, 2]) {
+        match self.rng.weighted(&WEIGHTS) {
             0 => self.memory(),
             1 => self.registers(),
             2 => self.condition(),
@@ -27,7 +31,8 @@ impl Burst<'_> {
             12 => self.stop_again(),
             13 => self.any_type(),
             14 => self.restart(),
-            _ => self.noise(),
+            15 => self.noise(),
+            _ => self.fill_pool(),
         }
     }
 
@@ -208,7 +213,8 @@ impl Burst<'_> {
         let (Some(pid), Some(point)) = (self.pid_where(false), self.point()) else {
             return self.condition();
         };
-        let block = block(self.rng, point.site);
+        let site = point.site;
+        let block = block(self.rng, site);
         self.steps.push(Step::Trap { pid, block });
         if self.rng.chance(50) {
             let register = 4 + self.rng.below(128);
@@ -216,7 +222,7 @@ impl Burst<'_> {
             self.put(register);
         }
         if self.rng.chance(30) {
-            self.put(point.site);
+            self.put(site);
         }
         self.ask(ten(14, pid, &[]));
         self.steps.push(Step::Trap { pid, block });

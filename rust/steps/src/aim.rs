@@ -7,6 +7,15 @@ use reference::{Breakpoint, ENTRIES, STOPPED};
 pub(crate) const EDGES: [u32; 16] =
     [0, 1, 2, 3, 4, 5, 127, 128, 129, 130, 131, 132, 133, 134, 135, 136];
 
+impl<'a> Burst<'a> {
+    /// A breakpoint, if there is one.
+    pub(crate) fn point(&mut self) -> Option<&'a Breakpoint> {
+        let start = self.rng.index(ENTRIES);
+        let table = &self.stub.table;
+        (0..ENTRIES).find_map(|i| table[(start + i) % ENTRIES].as_ref())
+    }
+}
+
 impl Burst<'_> {
     /// The first address past the window; 0 where the window ends at 2^32.
     pub(crate) fn end(&self) -> u32 {
@@ -20,13 +29,6 @@ impl Burst<'_> {
 
     pub(crate) fn even(&mut self) -> u32 {
         self.inside() & !1
-    }
-
-    /// A breakpoint, if there is one.
-    pub(crate) fn point(&mut self) -> Option<Breakpoint> {
-        let start = self.rng.index(ENTRIES);
-        let table = &self.stub.table;
-        (0..ENTRIES).find_map(|i| table[(start + i) % ENTRIES])
     }
 
     /// A site that holds a trap, else an even address of the window.

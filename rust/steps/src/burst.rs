@@ -1,5 +1,6 @@
 //! Makes steps from a seed: a few at a time, aimed at what the stub has at that moment.
 
+use crate::limits::Turns;
 use crate::rng::Rng;
 use crate::step::{ten, Step};
 use reference::{Stub, MESSAGE};
@@ -10,17 +11,19 @@ pub struct Generator {
     pub rng: Rng,
     /// The type byte that a request of any type has next.
     next_type: u8,
+    /// What the steps at the limits of conditions take in turn.
+    turns: Turns,
 }
 
 impl Generator {
     pub fn new(seed: u64) -> Self {
-        Self { rng: Rng(seed), next_type: 0 }
+        Self { rng: Rng(seed), next_type: 0, turns: Turns::default() }
     }
 
     /// A burst with no steps yet, aimed at this stub over this memory.
     pub fn burst<'a>(&'a mut self, stub: &'a Stub, memory: &'a [u8]) -> Burst<'a> {
-        let Self { rng, next_type } = self;
-        Burst { rng, next_type, stub, memory, steps: Vec::new() }
+        let Self { rng, next_type, turns } = self;
+        Burst { rng, next_type, turns, stub, memory, steps: Vec::new() }
     }
 }
 
@@ -28,6 +31,7 @@ impl Generator {
 pub struct Burst<'a> {
     pub rng: &'a mut Rng,
     pub(crate) next_type: &'a mut u8,
+    pub(crate) turns: &'a mut Turns,
     pub(crate) stub: &'a Stub,
     pub(crate) memory: &'a [u8],
     pub steps: Vec<Step>,

@@ -1,4 +1,5 @@
-//! Conditions: whole ones, long ones, faulty ones, and breakpoints until the table is full.
+//! Conditions: whole ones, faulty ones, and breakpoints until the table is full. Those at the limits
+//! of elements and places are in `limits`.
 
 use crate::burst::Burst;
 use crate::step::ten;
@@ -44,7 +45,7 @@ impl Burst<'_> {
     fn elements(&mut self) -> Vec<(u8, u32)> {
         let (pid, other) = (self.pid(15), self.pid(50));
         let (low, end) = (self.rng.pick(&[0, 0, 1, 2]), self.rng.pick(b"aao"));
-        match self.rng.weighted(&[10, 14, 26, 12, 20, 4, 6, 5, 3]) {
+        match self.rng.weighted(&[10, 14, 26, 12, 20, 4, 6, 5, 2, 2]) {
             0 => vec![],
             1 => vec![(b'k', pid), (b'a', 0)],
             2 => self.compared(end),
@@ -56,27 +57,36 @@ impl Burst<'_> {
             5 => vec![(b'*', 0), (b'p', low), (end, 0)],
             6 => vec![(b'p', low), (end, 0)],
             7 => vec![(b'k', pid), (b'k', other), (b'o', 0), (end, 0)],
-            _ => self.random(16, true),
+            8 => self.random(16, true),
+            _ => {
+                let count = 17 + self.rng.index(48);
+                self.chained(count)
+            }
         }
     }
 
     /// An address that `*` may read and what it would read there.
     fn looked_at(&mut self) -> (u32, u32) {
         let address = self.address();
+        self.read_at(address)
+    }
+
+    /// The address and what `*` would read there; anything where that is outside.
+    pub(crate) fn read_at(&mut self, address: u32) -> (u32, u32) {
         let mut bytes = [0; 4];
         let inside = self.stub.read_plain(self.memory, address, &mut bytes);
         let value = inside.map(|()| u32::from_le_bytes(bytes));
         (address, value.unwrap_or_else(|| self.rng.word()))
     }
 
-    fn compared(&mut self, end: u8) -> Vec<(u8, u32)> {
+    pub(crate) fn compared(&mut self, end: u8) -> Vec<(u8, u32)> {
         let (address, value) = self.looked_at();
         let change = if self.rng.chance(60) { 0 } else { 1 << self.rng.below(32) };
         let equal = self.rng.pick(b"==!");
         vec![(b'p', address), (b'*', 0), (b'p', value ^ change), (equal, 0), (end, 0)]
     }
 
-    fn masked(&mut self, end: u8) -> Vec<(u8, u32)> {
+    pub(crate) fn masked(&mut self, end: u8) -> Vec<(u8, u32)> {
         let (address, value) = self.looked_at();
         let mask = self.rng.pick(&[0xff, 0xff00, 0xffff_0000, 1, 0x8000_0000]);
         let change = if self.rng.chance(60) { 0 } else { 1 << self.rng.below(32) };
@@ -86,8 +96,8 @@ impl Burst<'_> {
     }
 
     /// Random elements up to a limit; closed ones come back to depth 1.
-    fn random(&mut self, limit: usize, closed: bool) -> Vec<(u8, u32)> {
-        let mut list = Vec::with_capacity(16);
+    pub(crate) fn random(&mut self, limit: usize, closed: bool) -> Vec<(u8, u32)> {
+        let mut list = Vec::with_capacity(limit);
         let mut depth = 1;
         while list.len() < limit {
             // A closed list needs room for the operators that bring it back.
@@ -139,32 +149,16 @@ impl Burst<'_> {
     }
 
     /// The next id that no breakpoint of the scene has.
-    fn next_id(&self, id: u32) -> u32 {
+    pub(crate) fn next_id(&self, id: u32) -> u32 {
         let mut ids = (1..=9).map(|i| (id + i) % 256);
         ids.find(|&id| self.stub.of_id(id).is_none()).unwrap_or(0)
     }
 
     /// The next site that the scene has free, from the window's beginning again past its end.
-    fn next_site(&self, site: u32) -> u32 {
+    pub(crate) fn next_site(&self, site: u32) -> u32 {
         let (base, size) = (self.stub.base, self.stub.size);
         let after = |i: u32| base + (site.wrapping_sub(base) + 2 * i) % size;
         (1..=9).map(after).find(|&site| self.is_free(site)).unwrap_or(base)
-    }
-
-    /// A condition of 16 elements and a 17th, with or without the values that it needs.
-    pub(crate) fn long(&mut self) {
-        let id = self.free_id();
-        self.op(b'n', id);
-        let closed = self.rng.chance(50);
-        let mut list = self.random(16, closed);
-        list.resize(16, (b'*', 0));
-        for (letter, val) in list {
-            self.op(letter, val);
-        }
-        let more = self.rng.pick(b"kp*&=!aob");
-        self.op(more, 0);
-        let site = self.site();
-        self.op(b'b', site);
     }
 
     /// A Tcondbreak for whatever is in hand.

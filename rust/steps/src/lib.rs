@@ -5,8 +5,8 @@
 //! - [`step`]: one step, and its bytes in the program's format
 //! - [`burst`]: a few steps that belong together; what they are aimed at, their conditions and what
 //!   they do are in modules of their own
-//! - [`tally`]: counts what was reached, [`continues`] what a Tstart found; [`table`] prints it and
-//!   says what is lacking
+//! - [`tally`]: counts what was reached, [`continues`] what a Tstart found, [`places`] how the limits
+//!   of conditions were met; [`table`] prints it and says what is lacking
 //! - [`program`]: random steps over the worked setup
 
 #![forbid(unsafe_code)]
@@ -16,6 +16,8 @@ mod aim;
 pub mod burst;
 mod conditions;
 pub mod continues;
+mod limits;
+pub mod places;
 pub mod program;
 pub mod rng;
 pub mod step;
@@ -28,3 +30,5 @@ pub use step::Step;
 
 /// The letters of Tcondbreak.
 pub const LETTERS: [u8; 11] = *b"nkp*&=!aobd";
+/// Those of elements.
+pub const ELEMENT_LETTERS: [u8; 8] = *b"kp*&=!ao";

@@ -1,6 +1,7 @@
 //! Random steps in the program's format, over the worked setup.
 
 use crate::burst::Generator;
+use crate::places::Held;
 use crate::step::Step;
 use crate::table::Section;
 use crate::tally::Tally;
@@ -12,7 +13,7 @@ const NUMBERS: [&[usize]; 6] = [&[], &[0], &[0, 4, 5, 6], &[0, 4], &[0, 4, 5], &
 
 /// Writes random steps; never a kind other than 1 to 5, never a cut step. Gives what they came to
 /// in a session of the independent stub.
-pub fn write(seed: u64, count: u64, mut output: impl Write) -> io::Result<[Section; 5]> {
+pub fn write(seed: u64, count: u64, mut output: impl Write) -> io::Result<[Section; 8]> {
     let mut generator = Generator::new(seed);
     let mut session = Session::worked();
     let mut tally = Tally::default();
@@ -35,10 +36,11 @@ pub fn write(seed: u64, count: u64, mut output: impl Write) -> io::Result<[Secti
 /// Runs a step in the session. Gives its bytes.
 fn run(step: &Step, session: &mut Session, tally: &mut Tally) -> Vec<u8> {
     let (kind, body) = (step.kind(), step.body());
+    let before = Held::of(&session.stub);
     let output = session.step(kind, &body);
     tally.number(usize::from(kind), output[0], Some(&session.stub));
     if let [0, answer @ ..] = &output[..] {
-        tally.answer(step, answer, &session.stub);
+        tally.answer(step, answer, before, &session.stub);
         tally.continues.take(step, answer, &session.stub, &session.registers);
     }
     [&[kind][..], &body].concat()

@@ -2,6 +2,7 @@
 //! the bounds and sites that reads and writes met.
 
 use crate::continues::Continues;
+use crate::places::{Held, Places};
 use crate::step::Step;
 use crate::table::{must, texts, Cell, Section};
 use crate::LETTERS;
@@ -37,7 +38,7 @@ pub struct Tally {
     started: [u64; 2],
     accepted: [u64; 11],
     refused: [u64; 11],
-    /// Those refused with count: a full table, or a 17th element.
+    /// Those refused with count: a full table, a 65th element, or no place left.
     full: [u64; 11],
     /// Tcondbreaks with another letter.
     other_letters: u64,
@@ -45,6 +46,7 @@ pub struct Tally {
     /// Stretches over the end of the registers, the window's beginning and end, and 2^32.
     bounds: [u64; 4],
     standing: [u64; 9],
+    places: Places,
     /// Fed apart, in sessions only.
     pub continues: Continues,
 }
@@ -64,6 +66,7 @@ impl Default for Tally {
             crossed: [0; 4],
             bounds: [0; 4],
             standing: [0; 9],
+            places: Places::default(),
             continues: Continues::default(),
         }
     }
@@ -90,11 +93,14 @@ impl Tally {
         self.numbers[kind][usize::from(number)] += 1;
         if let Some(stub) = stub {
             self.standing[stub.table.iter().flatten().count()] += 1;
+            self.places.left(stub);
         }
     }
 
-    /// Counts a step of number 0 by its answer, as the program writes it.
-    pub fn answer(&mut self, step: &Step, answer: &[u8], stub: &Stub) {
+    /// Counts a step of number 0 by its answer, as the program writes it, the places held before it
+    /// and the stub that it left.
+    pub fn answer(&mut self, step: &Step, answer: &[u8], before: Held, stub: &Stub) {
+        self.places.take(step, answer, before, stub);
         match (step, answer) {
             (Step::Request(request), _) => {
                 let (reply, plain) = answer.split_at(MESSAGE);
@@ -155,10 +161,13 @@ impl Tally {
 
     // ---- As a table. ----
 
-    /// The five sections, with the numbers that each kind can have; a kind with none has no row.
-    pub fn sections(&self, possible: &[&[usize]; 6]) -> [Section; 5] {
+    /// The eight sections, with the numbers that each kind can have; a kind with none has no row.
+    pub fn sections(&self, possible: &[&[usize]; 6]) -> [Section; 8] {
         let (by_number, by_answer) = (self.by_number(possible), self.by_answer());
-        [by_number, self.by_type(), by_answer, self.continues.section(), self.by_letter()]
+        let (continues, by_letter) = (self.continues.section(), self.by_letter());
+        let [refused, held, by_elements] = self.places.sections();
+        let by_type = self.by_type();
+        [by_number, by_type, by_answer, continues, by_letter, refused, held, by_elements]
     }
 
     fn by_number(&self, possible: &[&[usize]; 6]) -> Section {
@@ -217,7 +226,7 @@ impl Tally {
         let mut section = Section { title: "conditions, by letter", columns, rows: Vec::new() };
         section.row("accepted", must(&self.accepted));
         section.row("refused", must(&self.refused));
-        section.row("refused: table full, or a 17th element", letters_but(b"bd", &self.full));
+        section.row("refused with count", letters_but(b"bd", &self.full));
         section.row("refused with another letter", must(&[self.other_letters]));
         section
     }

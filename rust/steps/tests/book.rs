@@ -1,6 +1,8 @@
 //! The book of demand 3, kept beside the independent stub over random steps.
 
-use reference::{body_length, fit, Book, Claim, Element, Session, Stub, Verdict, BLOCK, MESSAGE};
+use reference::{
+    body_length, fit, Book, Claim, Element, Places, Session, Stub, Verdict, BLOCK, MESSAGE,
+};
 use steps::program;
 
 /// Feeds a step that got number 0; `registers` are those lent to it.
@@ -42,7 +44,7 @@ fn check_record(stub: &Stub, book: &Book) {
         assert_eq!(process.state == 8, book.stopped().contains(&process.pid));
     }
     // The book keeps a draft that the stub dropped, so this goes one way.
-    if let Some(draft) = stub.draft {
+    if let Some(draft) = &stub.draft {
         let kept = book.draft().unwrap();
         assert_eq!(u32::from(draft.id), kept.id);
         assert_eq!(draft.elements[..], sent(&kept.elements));
@@ -61,6 +63,7 @@ fn check_refused(before: &Session, s: &Session, kind: u8, body: &[u8]) {
 fn replay(steps: &[u8]) {
     let (mut s, mut at) = (Session::worked(), 0);
     let mut book = Book::new(s.stub.base, &[5, 7], &s.memory);
+    let mut places = Places::new();
     while at < steps.len() {
         let (kind, start) = (steps[at], at + 1);
         at = start + body_length(kind).unwrap();
@@ -72,7 +75,13 @@ fn replay(steps: &[u8]) {
         }
         if output[0] == 0 {
             assert_eq!(feed(&mut book, kind, body, &output[1..], &before.registers), Ok(()));
+            match kind {
+                1 => places.request(body.try_into().unwrap(), output[1..11].try_into().unwrap()),
+                5 => places.restart(),
+                _ => {}
+            }
         }
+        assert_eq!(s.stub.held() as u64, places.held());
         assert!(fit(&s.stub, &s.memory));
         assert_eq!(book.lies_under(&s.memory), Ok(()));
         check_record(&s.stub, &book);

@@ -95,7 +95,7 @@ fn most_conditions_are_well_formed() {
         let mut burst = generator.burst(&session.stub, &session.memory);
         burst.begin();
         let operations = operations(&burst.steps);
-        assert!(operations.iter().filter(|one| LETTERS.contains(&one.0)).count() <= 17);
+        assert!(operations.iter().filter(|one| LETTERS.contains(&one.0)).count() <= 65);
         let elements = operations.iter().skip(1).map(|&(letter, val)| Element::of(letter, val));
         let elements: Option<Vec<Element>> = elements.collect();
         whole += u32::from(elements.is_some_and(|list| depth(&list) == Some(1)));

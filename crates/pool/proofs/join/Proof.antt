@@ -4,7 +4,7 @@ use denote.Ref.{now}
 use lib.ListN.{set, length-set}
 use Rattle.target.specs.View.{elementsOf}
 use Rattle.pool.specs.Pool.{joined}
-use Rattle.pool.proofs.Words.{elements-set}
+use Rattle.pool.proofs.Words.{elements-length, elements-set}
 use borrow.Author.Needs.{needs}
 use Rattle.pool.proofs.join.Statement.{statement}
 use Rattle.pool.proofs.join.Tie as tie
@@ -33,9 +33,11 @@ slice-write-words-2 c = simp length-set (search needs)
 returns : tie.Need-returns
 unfolding joined
 returns c =
-    let a = c .before .before .args in
-    elements-set (now (a .places)) (c .held .result) (a .e .letter) (a .e .value)
-    ∙ ap (λ i. set (elementsOf (now (a .places))) i (a .e)) (c .held .ensures)
+    let a = c .before .before .args in (
+      elements-set (now (a .places)) (c .held .result) (a .e .letter) (a .e .value)
+          ∙ ap (λ i. set (elementsOf (now (a .places))) i (a .e)) (c .held .ensures),
+      elements-length (now (a .places)) 128 (search needs),
+    )
 
 pub join-spec : {M : Type 1} → statement M
 join-spec =

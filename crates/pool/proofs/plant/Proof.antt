@@ -6,7 +6,7 @@ use lib.ListN.{length}
 use Rattle.target.specs.View.{startAt, heldBy}
 use Rattle.pool.specs.Pool.{planted}
 use Rattle.pool.proofs.Sizes.{start-all, start-up, start-held, held-up}
-use Rattle.pool.proofs.Words.{elements-turn}
+use Rattle.pool.proofs.Words.{elements-length, elements-turn}
 use borrow.Author.Needs.{needs}
 use Rattle.pool.proofs.plant.Statement.{statement}
 use Rattle.pool.proofs.plant.Tie as tie
@@ -52,10 +52,12 @@ returns c =
     omega (arith, h .before .start-of2 .ensures .0, start-all (a .entries) 8 0 z) in
     let w = start-up (a .entries) (a .k) in
     let v = start-held (a .entries) (a .k) 0 in
-    let u = held-up (a .entries) (a .count) in
-    elements-turn (startAt (a .entries) (a .k)) (heldBy (a .entries) 0) (heldBy (a .entries) (a .count))
-    (omega arith) (omega arith) (now (a .places)) (c .turn .last .0) _ _ _
-    (h .before .before .start-of .ensures .0) m (h .held .ensures) (omega arith) (search needs) (c .turn .ensures)
+    let u = held-up (a .entries) (a .count) in (
+      elements-turn (startAt (a .entries) (a .k)) (heldBy (a .entries) 0) (heldBy (a .entries) (a .count))
+          (omega arith) (omega arith) (now (a .places)) (c .turn .last .0) _ _ _
+          (h .before .before .start-of .ensures .0) m (h .held .ensures) (omega arith) (search needs) (c .turn .ensures),
+      elements-length (now (a .places)) 128 (search needs),
+    )
 
 pub plant-spec : {M : Type 1} → statement M
 plant-spec =

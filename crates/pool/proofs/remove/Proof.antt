@@ -7,7 +7,7 @@ use denote.Ref.{now}
 use Rattle.target.specs.View.{startAt, heldBy}
 use Rattle.pool.specs.Pool.{removed}
 use Rattle.pool.proofs.Sizes.{start-up, start-held}
-use Rattle.pool.proofs.Words.{elements-turn}
+use Rattle.pool.proofs.Words.{elements-length, elements-turn}
 use borrow.Author.Needs.{needs}
 use Rattle.pool.proofs.remove.Statement.{statement}
 use Rattle.pool.proofs.remove.Tie as tie
@@ -52,10 +52,12 @@ returns c =
     let m : h .before .start-of2 .result ≡ startAt (a .entries) (suc (a .k)) =
     h .before .start-of2 .ensures .0 ∙ rw add-one in
     let w = start-up (a .entries) (a .k) in
-    let v = start-held (a .entries) (a .k) (a .count) in
-    elements-turn (startAt (a .entries) (a .k)) (startAt (a .entries) (suc (a .k))) (heldBy (a .entries) (a .count))
-    (omega arith) (omega arith) (now (a .places)) (c .turn .last .0) _ _ _
-    (h .before .before .start-of .ensures .0) m (h .held .ensures) (omega arith) (search needs) (c .turn .ensures)
+    let v = start-held (a .entries) (a .k) (a .count) in (
+      elements-turn (startAt (a .entries) (a .k)) (startAt (a .entries) (suc (a .k))) (heldBy (a .entries) (a .count))
+          (omega arith) (omega arith) (now (a .places)) (c .turn .last .0) _ _ _
+          (h .before .before .start-of .ensures .0) m (h .held .ensures) (omega arith) (search needs) (c .turn .ensures),
+      elements-length (now (a .places)) 128 (search needs),
+    )
 
 pub remove-spec : {M : Type 1} → statement M
 remove-spec =

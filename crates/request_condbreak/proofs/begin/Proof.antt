@@ -1,28 +1,29 @@
 -- `request_condbreak::begin` meets its contract: the ids of the scan are the table's, so that each test decides as the
 -- definition's does.
 -- Assumes nothing.
-use mathlib.Core.Path.{_≡_, sym, ap, _∙_}
+use mathlib.Core.Path.{_≡_, refl, sym, _∙_}
 use mathlib.Core.Bool.{cond}
 use mathlib.Core.List.{List}
 use Prim.Native.Nat.{ℕ, _≤_, _<_}
 use native.Mathlib.Omega.{arith}
 use borrow.Author.Needs.{needs}
 use borrow.Author.Tests.{lt-ltb, le-ltb, le-leb, lt-leb}
-use lib.Dec.{eqb, leb}
-use lib.ListN.{length}
-use Rattle.common.specs.First.{firstOf}
+use lib.Dec.{leb}
+use lib.ListN.{length, replicate}
 use Rattle.common.proofs.First.{first-within}
 use Rattle.target_fit.specs.Fit.{entryOf}
-use Rattle.step_effect.specs.Change.{applied}
+use Rattle.target_fit.specs.Arrays.{idsOf}
+use Rattle.step_effect.proofs.Laws.{replies}
 use Rattle.rules.specs.Condition.{failed, begun, beginCondition}
 use Rattle.rules.specs.Outcome.{world, replied}
 use Rattle.rules.specs.Record.{withDraft}
 use Rattle.target.specs.Free.{isFree, firstFree}
-use Rattle.target.specs.declared.Target.{Target}
+use Rattle.target.specs.View.{Target, elementsOf, viewOf}
+use Rattle.target_fit.proofs.Slots.{eight-entries}
 use Rattle.wire.specs.declared.Message.the-variants.{Rcondbreak}
 use Rattle.wire_text.specs.declared.Reason.the-variants.{Count, Inval}
-use Rattle.target_fit.proofs.Slots.{first-free, eight-entries, target-small}
 use Rattle.request_condbreak.proofs.Laws.{id-found}
+use Rattle.request_condbreak.proofs.Views.{view-begun}
 use Rattle.request_condbreak.proofs.begin.Statement.{statement}
 use Rattle.request_condbreak.proofs.begin.Tie as tie
 
@@ -62,28 +63,21 @@ module _ (t : Target) (mem regs : List ℕ) (val : ℕ) (eight : length (t .tabl
 abbrev start : tie.After-entry-of → tie.Start
 start f = f .before .before .before .before
 
--- and from where it has looked for a free entry
-abbrev whole : tie.After-entry-of2 → tie.Start
-whole f = start (f .before .before .before)
+eight-at : (s : tie.Start) (words : List ℕ) → length (viewOf (s .args .t) words .table .entries) ≡ 8
+eight-at s words = eight-entries (s .args .t) _ (elementsOf words) (s .good .0)
 
-found : (f : tie.After-entry-of) → f .entry-of .result ≡ entryOf (start f .args .t .table .entries) (start f .args .val)
-found f = let s = start f in f .entry-of .ensures ∙ id-found (s .args .t) (s .args .s) (s .args .val) (s .pre)
-
-eight-at : (s : tie.Start) → length (s .args .t .table .entries) ≡ 8
-eight-at s = eight-entries (s .args .t) _ (s .good .0)
-
-free : (f : tie.After-entry-of2) → f .entry-of2 .result ≡ firstFree (whole f .args .t .table .entries)
-free f =
-    let s = whole f in
-    f .entry-of2 .ensures ∙ ap (firstOf (eqb 256)) (s .pre)
-    ∙ first-free (s .args .t .table .entries) (target-small (s .args .t) _ (s .good .0))
+found : (f : tie.After-entry-of) (words : List ℕ)
+    → start f .args .s .ids ≡ idsOf (viewOf (start f .args .t) words .table .entries)
+    → f .entry-of .result ≡ entryOf (viewOf (start f .args .t) words .table .entries) (start f .args .val)
+found f words r =
+    let s = start f in f .entry-of .ensures ∙ id-found (viewOf (s .args .t) words) (s .args .s) (s .args .val) r
 
 fail-requires : tie.Need-fail-requires
 fail-requires c κs = search needs
 
 returns : tie.Need-returns
 unfolding beginCondition
-returns c = λ mem regs. rw (lt-ltb 255 _ (c .before .if1 .taken)) (c .fail .ensures _ mem regs)
+returns c = λ words mem regs r. rw (lt-ltb 255 _ (c .before .if1 .taken)) (c .fail .ensures _ words mem regs)
 
 entry-of-requires : tie.Need-entry-of-requires
 entry-of-requires c κs = search needs
@@ -95,11 +89,11 @@ returns-2 : tie.Need-returns-2
 returns-2 c =
     let f = c .before .before in
     let s = start f in
-    λ mem regs. c .fail2 .ensures _ mem regs ∙ used (s .args .t) mem regs (s .args .val) (eight-at s) (omega arith)
-    (omega (arith, found f))
+    λ words mem regs r. c .fail2 .ensures _ words mem regs
+    ∙ used (viewOf (s .args .t) words) mem regs (s .args .val) (eight-at s words) (omega arith) (omega (arith, found f words r))
 
-entry-of-requires-2 : tie.Need-entry-of-requires-2
-entry-of-requires-2 c κs = search needs
+first-free-requires : tie.Need-first-free-requires
+first-free-requires c κs = search needs
 
 fail-requires-3 : tie.Need-fail-requires-3
 fail-requires-3 c κs = search needs
@@ -107,12 +101,12 @@ fail-requires-3 c κs = search needs
 returns-3 : tie.Need-returns-3
 returns-3 c =
     let g = c .before .before in
-    let f = g .before .before .before in
+    let f = g .before .before in
     let s = start f in
-    λ mem regs.
-    c .fail3 .ensures _ mem regs
-    ∙ full (s .args .t) mem regs (s .args .val) (eight-at s) (omega arith) (omega (arith, found f))
-    (omega (arith, free g))
+    λ words mem regs r.
+    c .fail3 .ensures _ words mem regs
+    ∙ full (viewOf (s .args .t) words) mem regs (s .args .val) (eight-at s words) (omega arith) (omega (arith, found f words r))
+    (omega (arith, g .first-free .ensures (elementsOf words)))
 
 cast-id : tie.Need-cast-id
 cast-id c = search needs
@@ -121,16 +115,16 @@ done-requires : tie.Need-done-requires
 done-requires c κs = search needs
 
 returns-4 : tie.Need-returns-4
-unfolding applied
 returns-4 c =
-    let e = c .before in
-    let g = e .before in
-    let f = g .before .before .before in
+    let x = c .before in
+    let g = x .before in
+    let f = g .before .before in
     let s = start f in
-    λ mem regs.
-    c .done .ensures (s .args .t) mem regs
-    ∙ begins (s .args .t) mem regs (s .args .val) (eight-at s) (omega arith) (omega (arith, found f))
-    (λ h. e .if3 .left (omega (arith, free g)))
+    λ words mem regs r.
+    replies (s .args .t) Rcondbreak words mem regs (c .done .ensures) refl
+    ∙ rw (view-begun (s .args .t) (replicate 16 0) words (s .args .val))
+    (begins (viewOf (s .args .t) words) mem regs (s .args .val) (eight-at s words) (omega arith)
+    (omega (arith, found f words r)) (λ h. x .if3 .left (omega (arith, g .first-free .ensures (elementsOf words)))))
 
 pub begin-spec : {M : Type 1} → statement M
 begin-spec =
@@ -141,7 +135,7 @@ begin-spec =
     entry-of-requires
     fail-requires-2
     returns-2
-    entry-of-requires-2
+    first-free-requires
     fail-requires-3
     returns-3
     cast-id

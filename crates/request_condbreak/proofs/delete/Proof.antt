@@ -1,19 +1,31 @@
 -- `request_condbreak::delete` meets its contract: the ids of the scan are the table's, and an entry that is found is
 -- used. Assumes nothing.
 use mathlib.Core.Path.{_≡_, ap, _∙_}
+use mathlib.Core.Bool.{false}
+use mathlib.Core.List.{List}
+use Prim.Native.Nat.{ℕ, _≤_}
 use native.Mathlib.Omega.{arith}
 use borrow.Author.Needs.{needs}
 use borrow.Author.Tests.{lt-ltb, le-ltb, le-leb, lt-leb}
 use denote.Ref.{now}
 use lib.ListN.{length}
-use Rattle.target_fit.specs.Fit.{entryOf}
-use Rattle.step_effect.specs.Change.{applied}
+use Rattle.breakpoint.proofs.Laws.{ready-good}
+use Rattle.breakpoint.specs.Breaks.{Removable}
+use Rattle.rules.specs.Breakpoint.{removed}
 use Rattle.rules.specs.Condition.{deleteBreakpoint}
+use Rattle.rules.specs.Outcome.{world, replied, error}
+use Rattle.rules.proofs.FitFacts.{facts-of}
 use Rattle.rules.proofs.Found.{id-is-used}
-use Rattle.rules.specs.Outcome.{repliedWith, replied, error}
+use Rattle.step_effect.specs.Change.{stored}
+use Rattle.step_effect.proofs.Laws.{replies}
+use Rattle.target.specs.View.{elementsOf, draftSize, heldBy, viewOf}
+use Rattle.target.specs.Free.{isFree}
+use Rattle.target_fit.specs.Fit.{entryAt, entryOf}
+use Rattle.target_fit.proofs.Slots.{eight-entries, eight-stored, two-each}
+use Rattle.target_fit.proofs.View.{table-held}
 use Rattle.wire.specs.declared.Message.the-variants.{Rcondbreak}
 use Rattle.request_condbreak.proofs.Laws.{id-found}
-use Rattle.target_fit.proofs.Slots.{eight-entries}
+use Rattle.request_condbreak.proofs.Views.{deletes}
 use Rattle.request_condbreak.proofs.delete.Statement.{statement}
 use Rattle.request_condbreak.proofs.delete.Tie as tie
 
@@ -21,36 +33,76 @@ use Rattle.request_condbreak.proofs.delete.Tie as tie
 abbrev start : tie.After-entry-of → tie.Start
 start f = f .before .before .before .before .before .before
 
-found : (f : tie.After-entry-of) → f .entry-of .result ≡ entryOf (start f .args .t .table .entries) (start f .args .val)
-found f = let s = start f in f .entry-of .ensures ∙ id-found (s .args .t) (s .args .s) (s .args .val) (s .pre .ids)
+-- the entries as the rules see them
+module _ (s : tie.Start) where
+  abbrev words : List ℕ
+  words = now (s .args .places)
 
-eight : (s : tie.Start) → length (s .args .t .table .entries) ≡ 8
-eight s = eight-entries (s .args .t) _ (s .good .0)
+  eight : length (viewOf (s .args .t) words .table .entries) ≡ 8
+  eight = eight-entries (s .args .t) _ (elementsOf words) (s .good .0)
+
+  -- the places held, with those of the condition in hand
+  few : heldBy (s .args .t .table .entries) (draftSize (s .args .t .table .draft)) ≤ 128
+  few =
+      let good = ready-good (s .args .t) words _ (s .good .0) (s .args .s) _ (s .pre) in
+      rw (table-held (s .args .t .table) (elementsOf words)) at (facts-of (viewOf (s .args .t) words) _ good .held)
+
+found : (f : tie.After-entry-of)
+    → f .entry-of .result ≡ entryOf (viewOf (start f .args .t) (words (start f)) .table .entries) (start f .args .val)
+found f =
+    let s = start f in
+    f .entry-of .ensures ∙ id-found (viewOf (s .args .t) (words s)) (s .args .s) (s .args .val) (s .pre .ids)
+
+-- an entry that is found can be removed
+removable : (t : tie.Then2) → let s = start (t .before) in
+    Removable (viewOf (s .args .t) (words s)) (s .args .s) (t .before .entry-of .result)
+removable t =
+    let f = t .before in
+    let s = start f in
+    let es = viewOf (s .args .t) (words s) .table .entries in
+    let u = id-is-used es (s .args .val) (omega arith) (omega (arith, found f, eight s)) in
+    record {
+      traps = s .pre .sites;
+      plain = s .pre .plain;
+      below = t .if2 .taken;
+      eight = eight s;
+      two = two-each (s .args .t) _ (elementsOf (words s)) (s .good .0);
+      used = ap (λ (k : ℕ). isFree (entryAt es k)) (found f) ∙ u;
+    }
+
+-- where the bytes are put back, and where the entry is found, from where the places in hand are known
+abbrev put-back-at : tie.After-in-hand → tie.After-put-back
+put-back-at h = h .before .before .before .before .before .before .before
+
+abbrev found-at : tie.After-in-hand → tie.Then2
+found-at h = put-back-at h .before .before
 
 bytes-of-requires : tie.Need-bytes-of-requires
 bytes-of-requires c κs = search needs
 
-with-requires : tie.Need-with-requires
-with-requires c κs = search needs
+answering-requires : tie.Need-answering-requires
+answering-requires c κs = search needs
 
 returns : tie.Need-returns
-unfolding applied deleteBreakpoint error repliedWith
+unfolding stored deleteBreakpoint error
 returns c =
     let t = c .before in
-    λ regs. rw (lt-leb _ 255 (t .if1 .taken), c .with .ensures, t .before .bytes-of .ensures)
+    λ regs. rw (lt-leb _ 255 (t .if1 .taken)) (replies _ _ _ _ regs (c .answering .ensures) (t .before .bytes-of .ensures))
 
 entry-of-requires : tie.Need-entry-of-requires
 entry-of-requires c κs = search needs
 
 put-back-requires : tie.Need-put-back-requires
-put-back-requires c κs =
-    let t = c .before in
-    let f = t .before in
-    let s = start f in
-    let es = s .args .t .table .entries in
-    let val = s .args .val in
-    let u = id-is-used es val (omega arith) (omega (arith, found f, eight s)) in
-    record { traps = s .pre .sites; plain = s .pre .plain; below = t .if2 .taken; used = rw (found f) u }
+put-back-requires c κs = search needs
+
+in-hand-requires : tie.Need-in-hand-requires
+in-hand-requires c κs = search needs
+
+remove-requires : tie.Need-remove-requires
+remove-requires c κs =
+    let t = found-at c in
+    let s = start (t .before) in
+    (t .if2 .taken, omega (arith, ap (heldBy (s .args .t .table .entries)) (c .in-hand .ensures), few s))
 
 done-requires : tie.Need-done-requires
 done-requires c κs = search needs
@@ -59,50 +111,51 @@ same-length : tie.Need-same-length
 same-length c = search needs
 
 returns-2 : tie.Need-returns-2
-unfolding applied deleteBreakpoint
+unfolding deleteBreakpoint
 returns-2 c =
-    let r = c .before .before .before in
-    let f = r .before .before .before in
+    let r = c .before in
+    let h = r .before in
+    let t = found-at h in
+    let f = t .before in
     let s = start f in
-    let es = s .args .t .table .entries in
-    let val = s .args .val in
+    let a = s .args in
+    let es = viewOf (a .t) (words s) .table .entries in
     λ regs.
-    rw (
-      le-leb val 255 (omega arith),
-      lt-ltb (entryOf es val) (length es) (omega (arith, eight s, found f)),
-      ← found f,
-    )
-    (c .done .ensures (s .args .t) _ regs ∙ ap (replied Rcondbreak) (r .put-back .ensures regs))
+    let w = world (viewOf (a .t) (words s)) (now (a .mem)) regs in
+    rw (le-leb (a .val) 255 (omega arith), lt-ltb (entryOf es (a .val)) (length es) (omega (arith, eight s, found f)))
+    (deletes (a .t) (words s) (now (a .mem)) regs _ _ _ _ _ (c .done .ensures)
+    (omega (arith, eight-stored (a .t) _ (s .good .0), t .if2 .taken)) (h .in-hand .ensures) (r .remove .ensures .0)
+    (omega (arith, ap (heldBy (a .t .table .entries)) (h .in-hand .ensures), few s, r .remove .ensures .1))
+    (put-back-at h .put-back .ensures (viewOf (a .t) (words s)) regs (removable t))
+    ∙ ap (λ (k : ℕ). replied Rcondbreak (removed w k)) (found f))
 
-with-requires-2 : tie.Need-with-requires-2
-with-requires-2 c κs = search needs
+answering-requires-2 : tie.Need-answering-requires-2
+answering-requires-2 c κs = search needs
 
 returns-3 : tie.Need-returns-3
-unfolding applied deleteBreakpoint error repliedWith
+unfolding stored deleteBreakpoint error
 returns-3 c =
     let f = c .before .before in
     let s = start f in
-    let es = s .args .t .table .entries in
+    let es = viewOf (s .args .t) (words s) .table .entries in
     let val = s .args .val in
     λ regs.
-    rw (
-      le-leb val 255 (omega arith),
-      le-ltb (entryOf es val) (length es) (omega (arith, eight s, found f)),
-      c .with2 .ensures,
-      f .before .before .before .before .bytes-of .ensures,
-    )
+    rw (le-leb val 255 (omega arith), le-ltb (entryOf es val) (length es) (omega (arith, eight s, found f)))
+    (replies _ _ _ _ regs (c .answering2 .ensures) (f .before .before .before .before .bytes-of .ensures))
 
 pub delete-spec : {M : Type 1} → statement M
 delete-spec =
     tie.close
     (tie.spec
     bytes-of-requires
-    with-requires
+    answering-requires
     returns
     entry-of-requires
     put-back-requires
+    in-hand-requires
+    remove-requires
     done-requires
     same-length
     returns-2
-    with-requires-2
+    answering-requires-2
     returns-3)

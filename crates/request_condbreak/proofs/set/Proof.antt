@@ -12,7 +12,8 @@ use Rattle.condition.specs.Depth.{wellFormed}
 use Rattle.rules.specs.Condition.{inHand, siteFree, setBreakpoint}
 use Rattle.breakpoint.proofs.Laws.{ready-findable}
 use Rattle.rules.specs.Outcome.{World, world}
-use Rattle.request_condbreak.proofs.Laws.{site-low, site-high}
+use Rattle.target.specs.View.{viewOf}
+use Rattle.request_condbreak.proofs.Laws.{site-low, site-high, ready-few, ready-hand}
 use Rattle.request_condbreak.proofs.set.Statement.{statement}
 use Rattle.request_condbreak.proofs.set.Tie as tie
 
@@ -21,7 +22,7 @@ abbrev start : tie.After-site-free → tie.Start
 start f = f .before .before .before .before .before .before
 
 abbrev world-at : tie.After-site-free → List ℕ → World
-world-at f regs = let a = start f .args in world (a .t) (now (a .mem)) regs
+world-at f regs = let a = start f .args in world (viewOf (a .t) (now (a .places))) (now (a .mem)) regs
 
 -- what the first two tests know
 held : (f : tie.After-site-free) (regs : List ℕ) → inHand (world-at f regs) ≡ true
@@ -30,7 +31,10 @@ held f regs = rw (ne-eqb _ 0 (f .before .if1 .left))
 
 tested : (f : tie.After-site-free) (regs : List ℕ) → siteFree (world-at f regs) (start f .args .val)
     ≡ f .site-free .result
-tested f regs = sym (f .site-free .ensures _ regs)
+tested f regs =
+    let s = start f in
+    sym (f .site-free .ensures (now (s .args .places)) _ regs
+    (ready-findable (s .args .t) _ _ (s .good .0) (s .args .s) _ (s .pre)))
 
 free : (e : tie.Else2) (regs : List ℕ) → siteFree (world-at (e .before) regs) (start (e .before) .args .val) ≡ true
 free e regs = tested (e .before) regs ∙ not-false _ (e .if2 .left)
@@ -40,12 +44,10 @@ fail-requires c κs = search needs
 
 returns : tie.Need-returns
 unfolding setBreakpoint inHand
-returns c = λ regs. rw (eq-eqb _ 0 (c .before .if1 .taken)) (c .fail .ensures _ _ regs)
+returns c = λ regs. rw (eq-eqb _ 0 (c .before .if1 .taken)) (c .fail .ensures _ _ _ regs)
 
 site-free-requires : tie.Need-site-free-requires
-site-free-requires c κs =
-    let s = c .before .before .before .before .before in
-    ready-findable (s .args .t) _ _ _ (s .good .0) (s .pre)
+site-free-requires c κs = search needs
 
 fail-requires-2 : tie.Need-fail-requires-2
 fail-requires-2 c κs = search needs
@@ -54,10 +56,7 @@ returns-2 : tie.Need-returns-2
 unfolding setBreakpoint
 returns-2 c =
     let f = c .before .before in
-    λ regs. rw (held f regs, tested f regs ∙ not-true _ (c .before .if2 .taken)) (c .fail2 .ensures _ _ regs)
-
-depth-of-requires : tie.Need-depth-of-requires
-depth-of-requires c κs = search needs
+    λ regs. rw (held f regs, tested f regs ∙ not-true _ (c .before .if2 .taken)) (c .fail2 .ensures _ _ _ regs)
 
 fail-requires-3 : tie.Need-fail-requires-3
 fail-requires-3 c κs = search needs
@@ -65,13 +64,13 @@ fail-requires-3 c κs = search needs
 returns-3 : tie.Need-returns-3
 unfolding setBreakpoint wellFormed
 returns-3 c =
-    let d = c .before .before in
-    let e = d .before .before in
+    let e = c .before .before .before in
+    let f = e .before in
     λ regs. rw (
-      held (e .before) regs,
+      held f regs,
       free e regs,
-      ne-eqb _ 1 (λ h. c .before .if3 .taken (d .depth-of .ensures .0 ∙ h)),
-    ) (c .fail3 .ensures _ _ regs)
+      ne-eqb _ 1 (λ h. c .before .if3 .taken (start f .pre .depth ∙ h)),
+    ) (c .fail3 .ensures _ _ _ regs)
 
 plant-requires : tie.Need-plant-requires
 plant-requires c κs =
@@ -79,12 +78,15 @@ plant-requires c κs =
     let f = e .before in
     let w = world-at f [] in
     let s = start f in
-    let low = site-low w (s .args .val) (free e []) in
+    let hand = f .before .if1 .left in
     record {
       traps = s .pre .sites;
       plain = s .pre .plain;
-      low = low;
+      low = site-low w (s .args .val) (free e []);
       high = omega (arith, site-high w (s .args .val) (free e []), s .pre .memory);
+      hand = hand;
+      room = ready-hand (s .args .t) _ _ (s .good .0) (s .args .s) _ (s .pre) hand .room;
+      few = ready-few (s .args .t) _ _ (s .good .0) (s .args .s) _ (s .pre);
     }
 
 same-length : tie.Need-same-length
@@ -94,10 +96,9 @@ returns-4 : tie.Need-returns-4
 unfolding setBreakpoint wellFormed
 returns-4 c =
     let p = c .before .before in
-    let t = p .before .before in
-    let d = t .before in
-    let e = d .before .before in
-    λ regs. rw (held (e .before) regs, free e regs, eq-eqb _ 1 (sym (d .depth-of .ensures .0) ∙ t .if3 .left))
+    let t = p .before .before .before in
+    let e = t .before .before in
+    λ regs. rw (held (e .before) regs, free e regs, eq-eqb _ 1 (sym (start (e .before) .pre .depth) ∙ t .if3 .left))
     (p .plant .ensures regs)
 
 pub set-spec : {M : Type 1} → statement M
@@ -109,7 +110,6 @@ set-spec =
     site-free-requires
     fail-requires-2
     returns-2
-    depth-of-requires
     fail-requires-3
     returns-3
     plant-requires

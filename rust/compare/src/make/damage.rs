@@ -4,13 +4,10 @@ use super::sorts::{Expect, SORTS};
 use super::{Scene, Writer};
 use crate::op::{Op, Origin};
 use crate::record::Record;
-use reference::{BLOCK, ELEMENTS, ENTRIES, TRAP};
-use sanirvoq::ffi::{Draft, Element, Entry, Process, Table, Target};
+use reference::{BLOCK, ENTRIES, TRAP};
+use sanirvoq::ffi::{self, Draft, Entry, Process, Table, Target};
 use std::mem::offset_of;
 use steps::{Burst, Rng, Step};
-
-const LETTERS: [u8; 8] = *b"kp*&=!ao";
-pub const OPERATORS: [u8; 6] = *b"*&=!ao";
 
 /// A record with damage, and other buffers where the damage needs them.
 pub struct Damaged {
@@ -71,14 +68,6 @@ impl Damage<'_> {
         Some(())
     }
 
-    /// An element of a used entry.
-    pub fn entry_element(&mut self) -> Option<&mut Element> {
-        let i = self.used()?;
-        let count = self.target().table.entries[i].count;
-        let k = (count > 0).then(|| self.rng.index(count as usize))?;
-        Some(&mut self.target().table.entries[i].elements[k])
-    }
-
     /// Begins a condition as `n` does, and changes it.
     pub fn draft(&mut self, change: impl FnOnce(&mut Draft, &mut Rng)) -> Option<()> {
         self.scene.stub.free_entry()?;
@@ -109,7 +98,7 @@ impl Damage<'_> {
             let taken = |site| entries.iter().any(|entry| entry.used == 1 && entry.site == site);
             let mut places = (0..memory.len()).step_by(2);
             let at = places.find(|&at| !taken(base + at as u32))?;
-            let plain = [memory[at], memory[at + 1]];
+            let plain = [memory[at], memory[at + 1], 0, 0];
             memory[at..at + 2].copy_from_slice(&TRAP);
             let (id, site) = (self.free_id(), base + at as u32);
             self.target().table.entries[i] = Entry { used: 1, id, plain, site, ..Entry::default() };
@@ -142,14 +131,13 @@ impl Damage<'_> {
     pub fn telling_byte(&mut self) -> usize {
         let table = offset_of!(Target, table);
         match (self.rng.below(10), self.used()) {
-            (0..=3, Some(i)) => {
-                let head = offset_of!(Entry, elements);
-                let count = self.target().table.entries[i].count as usize;
-                let part = self.rng.index(head + count * size_of::<Element>());
-                table + i * size_of::<Entry>() + part
+            (0..=2, Some(i)) => table + i * size_of::<Entry>() + self.rng.index(size_of::<Entry>()),
+            (3 | 4, Some(_)) => {
+                let held = self.scene.stub.held().max(1);
+                offset_of!(ffi::Record, places) + self.rng.index(8 * held)
             }
-            (4, _) => table + self.rng.index(ENTRIES) * size_of::<Entry>(),
-            (5 | 6, _) => table + offset_of!(Table, draft) + self.rng.index(24),
+            (5, _) => table + self.rng.index(ENTRIES) * size_of::<Entry>(),
+            (6, _) => table + offset_of!(Table, draft) + self.rng.index(size_of::<Draft>()),
             _ => self.rng.index(table),
         }
     }
@@ -160,59 +148,39 @@ pub fn no_flag(rng: &mut Rng) -> u8 {
     2 + rng.below(254) as u8
 }
 
-/// A count over 16; some are not when they are cut to fewer bits.
-pub fn over_16(rng: &mut Rng) -> u32 {
-    let any = rng.word().max(17);
-    rng.pick(&[17, 18, 255, 256, 257, 1 << 16, u32::MAX, any])
-}
-
-/// A byte that is the letter of no element.
-pub fn no_letter(rng: &mut Rng) -> u8 {
-    let any = rng.byte();
-    let letter = rng.pick(&[b'n', b'b', b'd', 0, b'K', b'P', any]);
-    if LETTERS.contains(&letter) {
-        0
-    } else {
-        letter
-    }
-}
-
-/// Noise in all that lies past a count.
-pub fn past_counts(target: &mut Target, noise: &Target) {
-    let count = target.count as usize;
-    target.processes[count..].copy_from_slice(&noise.processes[count..]);
-    let table = &mut target.table;
-    for (entry, noise) in table.entries.iter_mut().zip(&noise.table.entries) {
-        let count = ELEMENTS.min(entry.count as usize);
-        entry.elements[count..].copy_from_slice(&noise.elements[count..]);
-    }
-    let count = ELEMENTS.min(table.draft.count as usize);
-    table.draft.elements[count..].copy_from_slice(&noise.table.draft.elements[count..]);
+/// Noise in all that lies past a count, unheld places among it.
+pub fn past_counts(record: &mut ffi::Record, noise: &ffi::Record, held: usize) {
+    let count = record.target.count as usize;
+    record.target.processes[count..].copy_from_slice(&noise.target.processes[count..]);
+    record.places[2 * held..].copy_from_slice(&noise.places[2 * held..]);
 }
 
 /// Entries of anything that the flags, counts and letters of a table can say; sites that hold traps
 /// among them.
-pub fn random_table(target: &mut Target, noise: &Target, rng: &mut Rng) {
-    let sites = target.table.entries.map(|entry| entry.site);
-    for (entry, noise) in target.table.entries.iter_mut().zip(&noise.table.entries) {
-        let site = rng.pick(&sites);
-        *entry = Entry { used: u8::from(rng.chance(25)), count: rng.below(5), site, ..*noise };
-        for element in &mut entry.elements {
-            element.letter = rng.pick(b"kkppp*&=!ao");
-            element.value &= if OPERATORS.contains(&element.letter) { 0 } else { !0 };
-        }
+pub fn random_table(record: &mut ffi::Record, noise: &ffi::Record, rng: &mut Rng) {
+    let sites = record.target.table.entries.map(|entry| entry.site);
+    for (entry, noise) in record.target.table.entries.iter_mut().zip(&noise.target.table.entries) {
+        let (count, site) = (rng.below(5) as u8, rng.pick(&sites));
+        *entry = Entry { used: u8::from(rng.chance(25)), count, site, ..*noise };
+    }
+    for (place, noise) in record.places.chunks_exact_mut(2).zip(noise.places.chunks_exact(2)) {
+        let letter = rng.pick(b"kkppp*&=!ao");
+        let value = if matches!(letter, b'k' | b'p') { noise[1] } else { 0 };
+        (place[0], place[1]) = (letter.into(), value);
     }
 }
 
 impl Writer<'_> {
     /// Something that gives damage a hold.
     pub fn build_up(&mut self) {
-        match self.burst.rng.weighted(&[40, 15, 25, 10, 10]) {
+        match self.burst.rng.weighted(&[120, 45, 75, 30, 30, 4, 2]) {
             0 => self.steps(Burst::condition),
             1 => self.steps(Burst::fill),
             2 => self.steps(Burst::trap),
             3 => self.steps(Burst::schedule),
-            _ => self.steps(Burst::begin),
+            4 => self.steps(Burst::begin),
+            5 => self.steps(Burst::long),
+            _ => self.steps(Burst::fill_pool),
         }
     }
 

@@ -2,6 +2,7 @@
 
 mod acts;
 mod damage;
+mod pool;
 pub mod setup;
 mod sizes;
 pub mod sorts;

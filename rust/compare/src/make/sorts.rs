@@ -1,9 +1,10 @@
 //! The sorts of damage. Each names the one thing that it does to a record.
 
-use super::damage::{no_flag, no_letter, over_16, past_counts, random_table, Damage, OPERATORS};
+use super::damage::{no_flag, past_counts, random_table, Damage};
+use super::pool::{high_bit, no_letter, over_64, OPERATORS};
 use super::setup::two;
-use reference::{ELEMENTS, ENTRIES, STOPPED, TRAP};
-use sanirvoq::ffi::{Draft, Element, Entry};
+use reference::{ENTRIES, PLACES, STOPPED, TRAP};
+use sanirvoq::ffi::{Draft, Entry};
 
 /// The number that steps with no other fault must have.
 #[derive(Debug, Clone, Copy, PartialEq, Eq)]
@@ -42,7 +43,7 @@ const fn sort(name: &'static str, expect: Expect, apply: Apply) -> Sort {
     Sort { name, expect, apply }
 }
 
-pub const SORTS: [Sort; 54] = [
+pub const SORTS: [Sort; 63] = [
     // The window.
     sort("B no multiple of 4", Expect::Unfit, |d| d.set(|t, rng| t.base ^= rng.pick(&[1, 2, 3]))),
     sort("B under 4,096", Expect::Unfit, |d| d.set(|t, rng| t.base = 4 * rng.below(1_024))),
@@ -130,37 +131,54 @@ pub const SORTS: [Sort; 54] = [
         d.made.memory = Some(memory);
         Some(())
     }),
-    sort("an entry of over 16 elements", Expect::Unfit, |d| {
-        d.entry(|entry, rng| entry.count = over_16(rng))
+    sort("an entry of over 64 elements", Expect::Unfit, |d| {
+        d.entry(|entry, rng| entry.count = over_64(rng))
+    }),
+    sort("an entry of over 64 sound elements", Expect::Unfit, |d| {
+        let i = d.used()?;
+        d.long(i)
+    }),
+    sort("an entry of another count", Expect::Any(&[0, 3]), |d| {
+        d.entry(|entry, rng| entry.count = entry.count.wrapping_add(rng.pick(&[1, 2, 254, 255])))
     }),
     sort("an entry with a letter that is none", Expect::Unfit, |d| {
         let letter = no_letter(d.rng);
-        d.entry_element()?.letter = letter;
+        d.entry_place()?[0] = letter.into();
+        Some(())
+    }),
+    sort("an entry with a letter over 255", Expect::Unfit, |d| {
+        let bit = high_bit(d.rng);
+        d.entry_place()?[0] |= bit;
         Some(())
     }),
     sort("an entry with a value at an operator", Expect::Unfit, |d| {
         let value = 1 << d.rng.below(32);
-        let element = d.entry_element()?;
-        let operator = OPERATORS.contains(&element.letter);
-        operator.then(|| element.value = value)
+        let place = d.entry_place()?;
+        let operator = OPERATORS.iter().any(|&letter| u32::from(letter) == place[0]);
+        operator.then(|| place[1] = value)
     }),
     sort("an entry that lacks a value", Expect::Unfit, |d| {
-        d.entry(|entry, rng| {
-            entry.count = entry.count.max(1);
-            entry.elements[0] = Element { letter: rng.pick(b"&=!ao"), value: 0 };
-        })
+        let (i, letter) = (d.used()?, d.rng.pick(b"&=!ao"));
+        d.insert(i, false, letter, 0)
     }),
     sort("an entry that leaves two values", Expect::Unfit, |d| {
-        d.entry(|entry, rng| {
-            let at = if entry.count < 16 { entry.count } else { 0 };
-            entry.elements[at as usize] = Element { letter: rng.pick(b"kp"), value: rng.word() };
-            entry.count = at + 1;
-        })
+        let (i, letter, value) = (d.used()?, d.rng.pick(b"kp"), d.rng.word());
+        d.insert(i, true, letter, value)
     }),
-    sort("an entry forgotten", Expect::Fit, |d| d.entry(|entry, _| entry.used = 0)),
+    sort("an entry forgotten, with its elements", Expect::Fit, |d| d.forget()),
+    sort("an entry forgotten, its elements not", Expect::Any(&[0, 3]), |d| {
+        d.entry(|entry, _| entry.used = 0)
+    }),
     sort("a full table", Expect::Fit, |d| {
         d.fill_table()?;
         d.set(|t, _| t.table.draft.active = 0)
+    }),
+    // The places.
+    sort("all 128 places held", Expect::Fit, |d| d.held_in_all(PLACES)),
+    sort("129 places held", Expect::Unfit, |d| d.held_in_all(PLACES + 1)),
+    sort("over 128 places held", Expect::Unfit, |d| {
+        let total = PLACES + 1 + d.rng.index(4 * PLACES);
+        d.held_in_all(total)
     }),
     // The condition in hand.
     sort("active of 2 to 255", Expect::Unfit, |d| {
@@ -176,33 +194,29 @@ pub const SORTS: [Sort; 54] = [
         let id = d.free_id();
         d.set(|t, _| t.table.draft = Draft { active: 1, id, ..Draft::default() })
     }),
-    sort("a draft of over 16 elements", Expect::Unfit, |d| {
-        d.draft(|draft, rng| draft.count = over_16(rng))
+    sort("a draft of over 64 elements", Expect::Unfit, |d| {
+        d.draft(|draft, rng| draft.count = over_64(rng))
     }),
+    sort("a draft of over 64 sound elements", Expect::Unfit, |d| d.long_draft()),
     sort("a draft with a letter that is none", Expect::Unfit, |d| {
-        d.draft(|draft, rng| {
-            (draft.count, draft.elements[0]) = (1, Element { letter: no_letter(rng), value: 0 });
-        })
+        let letter = no_letter(d.rng);
+        d.draft_of(&[(letter, 0)]).map(|_| ())
+    }),
+    sort("a draft with a letter over 255", Expect::Unfit, |d| {
+        let (letter, bit) = (d.rng.pick(b"kp*"), high_bit(d.rng));
+        let first = d.draft_of(&[(letter, 0)])?;
+        d.made.record.raw_mut().places[2 * first] |= bit;
+        Some(())
     }),
     sort("a draft with a value at an operator", Expect::Unfit, |d| {
-        d.draft(|draft, rng| {
-            draft.elements[0] = Element { letter: b'p', value: 0 };
-            draft.elements[1] = Element { letter: rng.pick(&OPERATORS), value: 1 << rng.below(32) };
-            draft.count = 2;
-        })
+        let (operator, value) = (d.rng.pick(&OPERATORS), 1 << d.rng.below(32));
+        d.draft_of(&[(b'p', 0), (operator, value)]).map(|_| ())
     }),
     sort("a draft that lacks a value", Expect::Unfit, |d| {
-        d.draft(|draft, rng| {
-            draft.elements[0] = Element { letter: rng.pick(b"&=!ao"), value: 0 };
-            draft.count = 1;
-        })
+        let letter = d.rng.pick(b"&=!ao");
+        d.draft_of(&[(letter, 0)]).map(|_| ())
     }),
-    sort("a draft that no b can end", Expect::Fit, |d| {
-        d.draft(|draft, rng| {
-            draft.elements = [Element { letter: rng.pick(b"kp"), value: rng.word() }; ELEMENTS];
-            draft.count = ELEMENTS as u32;
-        })
-    }),
+    sort("a draft that no b can end", Expect::Fit, |d| d.unending_draft()),
     // What is of no account.
     sort("anything in free entries", Expect::Fit, |d| {
         let noise = d.noise();
@@ -215,14 +229,11 @@ pub const SORTS: [Sort; 54] = [
         Some(())
     }),
     sort("anything past the counts", Expect::Fit, |d| {
-        let noise = d.noise();
-        past_counts(d.target(), noise.target());
+        let (noise, held) = (d.noise(), d.scene.stub.held());
+        past_counts(d.made.record.raw_mut(), noise.raw(), held);
         Some(())
     }),
-    sort("anything in a draft not in hand", Expect::Fit, |d| {
-        let noise = d.noise();
-        d.set(|t, _| t.table.draft = Draft { active: 0, ..noise.target().table.draft })
-    }),
+    sort("anything in a draft not in hand", Expect::Fit, |d| d.anything_not_in_hand()),
     sort("anything current while none is", Expect::Fit, |d| {
         d.set(|t, rng| (t.selected, t.current) = (0, rng.word()))
     }),
@@ -233,7 +244,7 @@ pub const SORTS: [Sort; 54] = [
     }),
     sort("another state, Proc address and plain bytes", Expect::Fit, |d| {
         d.process(|one, rng| (one.state, one.address) = (rng.byte() | 1, rng.word()))?;
-        let plain = [d.rng.byte(), d.rng.byte()];
+        let plain = d.rng.word().to_le_bytes();
         if let Some(i) = d.used() {
             d.target().table.entries[i].plain = plain;
         }
@@ -269,7 +280,8 @@ pub const SORTS: [Sort; 54] = [
     }),
     sort("random breakpoints with sound flags", Expect::Any(&[0, 3]), |d| {
         let noise = d.noise();
-        d.set(|t, rng| random_table(t, noise.target(), rng))
+        random_table(d.made.record.raw_mut(), noise.raw(), d.rng);
+        Some(())
     }),
     sort("nothing", Expect::Fit, |_| Some(())),
 ];
