@@ -1,29 +1,33 @@
 // The steps for kernels in C and Rust, over a record that the caller owns. include/sanirvoq.h is the same for C.
 //
-// Every exported step has one form: the record, the memory, the register area, a pid, a byte, an input and a reply.
-// What a step does not use it leaves as it is. A setup gives back a whole record, which is stored. All other steps go
-// through one function, `capi_lent::step`.
+// Every exported step but the setup has one form: the record, its pool, the memory, the register area, a pid, a byte, an
+// input and a reply. What a step does not use it leaves as it is. A setup has no pool; it gives back a whole record,
+// which is stored. All other steps go through one function, `capi_lent::step`.
 use frame::Reader;
 use frame_fields::FedFields;
 use image_diff::Comparison;
 use step::StepKind;
+use target::Table;
 use target::Target;
 use text_packet::Packet;
 use text_packet::Writing;
 use text_packet_read::FoundPacket;
 use wire_fields::Fields;
 use wire_fields::Found;
+ghost use mathlib.Core.List.{List};
 ghost use mathlib.Core.Path.{_≡_};
+ghost use Prim.Native.Nat.{ℕ};
 ghost use Rattle.wire_fields.specs.Fields.{writeFields, foundBy};
 ghost use Rattle.frame.specs.Reader.{fresh};
 ghost use Rattle.frame_fields.specs.Fields.{fedSeen, fedSeenOf};
 ghost use Rattle.frame_reply.specs.Reply.{replied, replyOf};
 ghost use Rattle.image_diff.specs.Answer.{compared, differencesOf};
-ghost use Rattle.memory.specs.Head.{house};
 ghost use Rattle.capi_results.specs.Seen.{seen, seenOf, setupFrom};
+ghost use Rattle.capi_results.specs.Stepped.{Stepped};
 ghost use Rattle.rules.specs.Outcome.{world};
-ghost use Rattle.rules.specs.Step.{requestOf, trapOf, scheduleOf, stateOf, restartOf};
 ghost use Rattle.step.specs.Kinds.{leaving};
+ghost use Rattle.step.specs.declared.StepKind.the-variants as kind;
+ghost use Rattle.target.specs.View.{viewOf};
 ghost use Rattle.text_packet.specs.Write.{written as textWritten, writeOf as writeText};
 ghost use Rattle.text_packet_read.specs.Read.{foundBy as foundText, readOf as readText};
 ghost use Rattle.wire.specs.Codec.{written, readOf};
@@ -38,9 +42,10 @@ pub extern "C" fn sanirvoq_step_setup(
     input: &[u8],
     reply: &mut [u8],
 ) -> u32
-    ensures { λ r. ⌜ seen r (now (t .exit)) (now (mem .exit)) (now (regs .exit)) (now (reply .exit))
+    ensures { λ r. ⌜ ((words : List ℕ)
+        → seen r (viewOf (now (t .exit)) words) (now (mem .exit)) (now (regs .exit)) (now (reply .exit))
         ≡ seenOf (leaving (now (reply .entry))
-        (setupFrom (world (now (t .entry)) (now (mem .entry)) (now (regs .entry))))) ⌝ }
+        (setupFrom (world (viewOf (now (t .entry)) words) (now (mem .entry)) (now (regs .entry)))))) ⌝ }
 {
     let d = capi_results::setup(*t, mem, regs, pid, value, input, reply);
     *t = d.target;
@@ -51,6 +56,7 @@ pub extern "C" fn sanirvoq_step_setup(
 #[no_mangle]
 pub extern "C" fn sanirvoq_step_request(
     t: &mut Target,
+    places: &mut [u32; Table::WORDS],
     mem: &mut [u8],
     regs: &mut [u8],
     pid: u32,
@@ -58,17 +64,18 @@ pub extern "C" fn sanirvoq_step_request(
     input: &[u8],
     reply: &mut [u8],
 ) -> u32
-    ensures { λ r. ⌜ seen r (now (t .exit)) (now (mem .exit)) (now (regs .exit)) (now (reply .exit))
-        ≡ seenOf (requestOf house (world (now (t .entry)) (now (mem .entry)) (now (regs .entry))) (now (input .entry))
-        (now (reply .entry))) ⌝ }
+    ensures { λ r. ⌜ Stepped kind.Request (now (t .entry)) (now (places .entry)) (now (mem .entry)) (now (regs .entry))
+        pid value (now (input .entry)) (now (reply .entry)) r (now (t .exit)) (now (places .exit)) (now (mem .exit))
+        (now (regs .exit)) (now (reply .exit)) ⌝ }
 {
-    capi_lent::step(t, StepKind::Request, mem, regs, pid, value, input, reply)
+    capi_lent::step(t, places, StepKind::Request, mem, regs, pid, value, input, reply)
 }
 
 // A process ran into a trap: pid, and its block as input.
 #[no_mangle]
 pub extern "C" fn sanirvoq_step_trap(
     t: &mut Target,
+    places: &mut [u32; Table::WORDS],
     mem: &mut [u8],
     regs: &mut [u8],
     pid: u32,
@@ -76,17 +83,18 @@ pub extern "C" fn sanirvoq_step_trap(
     input: &[u8],
     reply: &mut [u8],
 ) -> u32
-    ensures { λ r. ⌜ seen r (now (t .exit)) (now (mem .exit)) (now (regs .exit)) (now (reply .exit))
-        ≡ seenOf (leaving (now (reply .entry))
-        (trapOf house (world (now (t .entry)) (now (mem .entry)) (now (regs .entry))) pid (now (input .entry)))) ⌝ }
+    ensures { λ r. ⌜ Stepped kind.Trap (now (t .entry)) (now (places .entry)) (now (mem .entry)) (now (regs .entry))
+        pid value (now (input .entry)) (now (reply .entry)) r (now (t .exit)) (now (places .exit)) (now (mem .exit))
+        (now (regs .exit)) (now (reply .exit)) ⌝ }
 {
-    capi_lent::step(t, StepKind::Trap, mem, regs, pid, value, input, reply)
+    capi_lent::step(t, places, StepKind::Trap, mem, regs, pid, value, input, reply)
 }
 
 // The kernel is about to run a process: pid, and its block as input.
 #[no_mangle]
 pub extern "C" fn sanirvoq_step_schedule(
     t: &mut Target,
+    places: &mut [u32; Table::WORDS],
     mem: &mut [u8],
     regs: &mut [u8],
     pid: u32,
@@ -94,17 +102,18 @@ pub extern "C" fn sanirvoq_step_schedule(
     input: &[u8],
     reply: &mut [u8],
 ) -> u32
-    ensures { λ r. ⌜ seen r (now (t .exit)) (now (mem .exit)) (now (regs .exit)) (now (reply .exit))
-        ≡ seenOf (leaving (now (reply .entry))
-        (scheduleOf house (world (now (t .entry)) (now (mem .entry)) (now (regs .entry))) pid (now (input .entry)))) ⌝ }
+    ensures { λ r. ⌜ Stepped kind.Schedule (now (t .entry)) (now (places .entry)) (now (mem .entry)) (now (regs .entry))
+        pid value (now (input .entry)) (now (reply .entry)) r (now (t .exit)) (now (places .exit)) (now (mem .exit))
+        (now (regs .exit)) (now (reply .exit)) ⌝ }
 {
-    capi_lent::step(t, StepKind::Schedule, mem, regs, pid, value, input, reply)
+    capi_lent::step(t, places, StepKind::Schedule, mem, regs, pid, value, input, reply)
 }
 
 // A process gets another state: pid and value.
 #[no_mangle]
 pub extern "C" fn sanirvoq_step_state(
     t: &mut Target,
+    places: &mut [u32; Table::WORDS],
     mem: &mut [u8],
     regs: &mut [u8],
     pid: u32,
@@ -112,17 +121,18 @@ pub extern "C" fn sanirvoq_step_state(
     input: &[u8],
     reply: &mut [u8],
 ) -> u32
-    ensures { λ r. ⌜ seen r (now (t .exit)) (now (mem .exit)) (now (regs .exit)) (now (reply .exit))
-        ≡ seenOf (leaving (now (reply .entry))
-        (stateOf house (world (now (t .entry)) (now (mem .entry)) (now (regs .entry))) pid value)) ⌝ }
+    ensures { λ r. ⌜ Stepped kind.State (now (t .entry)) (now (places .entry)) (now (mem .entry)) (now (regs .entry))
+        pid value (now (input .entry)) (now (reply .entry)) r (now (t .exit)) (now (places .exit)) (now (mem .exit))
+        (now (regs .exit)) (now (reply .exit)) ⌝ }
 {
-    capi_lent::step(t, StepKind::State, mem, regs, pid, value, input, reply)
+    capi_lent::step(t, places, StepKind::State, mem, regs, pid, value, input, reply)
 }
 
 // The debug session begins anew, answered in reply.
 #[no_mangle]
 pub extern "C" fn sanirvoq_step_restart(
     t: &mut Target,
+    places: &mut [u32; Table::WORDS],
     mem: &mut [u8],
     regs: &mut [u8],
     pid: u32,
@@ -130,11 +140,11 @@ pub extern "C" fn sanirvoq_step_restart(
     input: &[u8],
     reply: &mut [u8],
 ) -> u32
-    ensures { λ r. ⌜ seen r (now (t .exit)) (now (mem .exit)) (now (regs .exit)) (now (reply .exit))
-        ≡ seenOf (restartOf house (world (now (t .entry)) (now (mem .entry)) (now (regs .entry)))
-        (now (reply .entry))) ⌝ }
+    ensures { λ r. ⌜ Stepped kind.Restart (now (t .entry)) (now (places .entry)) (now (mem .entry)) (now (regs .entry))
+        pid value (now (input .entry)) (now (reply .entry)) r (now (t .exit)) (now (places .exit)) (now (mem .exit))
+        (now (regs .exit)) (now (reply .exit)) ⌝ }
 {
-    capi_lent::step(t, StepKind::Restart, mem, regs, pid, value, input, reply)
+    capi_lent::step(t, places, StepKind::Restart, mem, regs, pid, value, input, reply)
 }
 
 // Writes a message's ten bytes.

@@ -1,75 +1,56 @@
-// Every step but the setup over a record that its caller owns: the record is handed over by value, and just the parts
-// that change are stored.
+// Every step but the setup over a record that its caller owns: the record is handed over by value and the pool is lent;
+// just the parts of the record that change are stored.
 //
 // One function for all steps, because the compiler copies the record once more for every function that is called from
 // several places and takes it by value.
-use capi_parts::Left;
 use step::StepKind;
+use step_effect::Effect;
 use target::Table;
 use target::Target;
 ghost use mathlib.Core.Path.{_≡_};
-ghost use Rattle.capi_parts.specs.Stored.{storeDraft, storeFresh, storePlains, storeEntry, afterOf};
-ghost use Rattle.capi_results.specs.Seen.{seen, seenOf};
-ghost use Rattle.rules.specs.Outcome.{world};
-ghost use Rattle.step.specs.Kinds.{stepBy};
+ghost use Rattle.capi_results.specs.Seen.{resultOf};
+ghost use Rattle.capi_results.specs.Stepped.{Stepped};
+ghost use Rattle.step_effect.specs.Change.{stored};
+ghost use Rattle.capi_lent.specs.Stored.{storeDraft, storeEntries};
 
 // ---- the parts that change, stored in a record that is lent: one function for each part, which then hands the record
 // on
 
-fn store_draft(t: &mut Target, d: Left) -> u32
-    ensures { λ r. ⌜ (r ≡ d .result) × (now (t .exit) ≡ storeDraft d (now (t .entry))) ⌝ }
+fn store_draft(t: &mut Target, e: Effect) -> u32
+    ensures { λ r. ⌜ (r ≡ resultOf (e .number) (e .answer)) × (now (t .exit) ≡ storeDraft e (now (t .entry))) ⌝ }
 {
-    if d.draft {
-        t.table.draft = capi_parts::draft_left(t.table.draft, d);
+    if target_change::in_draft(e) {
+        t.table.draft = target_change::draft_after(t.table.draft, e);
     }
-    d.result
+    capi_results::result_of(e)
 }
 
-fn store_fresh(t: &mut Target, d: Left) -> u32
-    ensures { λ r. ⌜ (r ≡ d .result) × (now (t .exit) ≡ storeDraft d (storeFresh d (now (t .entry)))) ⌝ }
+fn store_entries(t: &mut Target, e: Effect) -> u32
+    ensures { λ r. ⌜ (r ≡ resultOf (e .number) (e .answer))
+        × (now (t .exit) ≡ storeDraft e (storeEntries e (now (t .entry)))) ⌝ }
 {
-    if d.fresh {
-        t.table = Table::new();
+    if target_change::in_entries(e) {
+        t.table.entries = target_change::entries_after(t.table, e);
     }
-    store_draft(t, d)
+    store_draft(t, e)
 }
 
-fn store_plains(t: &mut Target, d: Left) -> u32
-    ensures { λ r. ⌜ (r ≡ d .result)
-        × (now (t .exit) ≡ storeDraft d (storeFresh d (storePlains d (now (t .entry))))) ⌝ }
+fn store(t: &mut Target, e: Effect) -> u32
+    ensures { λ r. ⌜ (r ≡ resultOf (e .number) (e .answer))
+        × (now (t .exit) ≡ stored (now (t .entry)) (e .change) (e .plain)) ⌝ }
 {
-    if d.plains {
-        t.table.entries = capi_parts::plains_left(t.table.entries, d);
+    if target_change::in_beside(e) {
+        t.processes = target_change::processes_after(t.count, t.processes, e);
+        t.selected = target_change::selected_after(t.selected, e);
+        t.current = target_change::current_after(t.current, e);
     }
-    store_fresh(t, d)
+    store_entries(t, e)
 }
 
-fn store_entry(t: &mut Target, d: Left) -> u32
-    ensures { λ r. ⌜ (r ≡ d .result)
-        × (now (t .exit) ≡ storeDraft d (storeFresh d (storePlains d (storeEntry d (now (t .entry)))))) ⌝ }
-{
-    if d.entry {
-        let k = capi_parts::index_left(t.table, d);
-        let e = capi_parts::entry_left(t.table.draft, d);
-        t.table.entries = capi_parts::stored_left(t.table.entries, k, e);
-    }
-    store_plains(t, d)
-}
-
-fn store(t: &mut Target, d: Left) -> u32
-    ensures { λ r. ⌜ (r ≡ d .result) × (now (t .exit) ≡ afterOf (now (t .entry)) d) ⌝ }
-{
-    if d.beside {
-        t.processes = capi_parts::processes_left(t.count, t.processes, d);
-        t.selected = capi_parts::selected_left(t.selected, d);
-        t.current = capi_parts::current_left(t.current, d);
-    }
-    store_entry(t, d)
-}
-
-// A step by its kind, over a record that is lent.
+// A step by its kind, over a record and a pool that are lent.
 pub fn step(
     t: &mut Target,
+    places: &mut [u32; Table::WORDS],
     kind: StepKind,
     mem: &mut [u8],
     regs: &mut [u8],
@@ -78,10 +59,10 @@ pub fn step(
     input: &[u8],
     reply: &mut [u8],
 ) -> u32
-    ensures { λ r. ⌜ seen r (now (t .exit)) (now (mem .exit)) (now (regs .exit)) (now (reply .exit))
-        ≡ seenOf (stepBy kind (world (now (t .entry)) (now (mem .entry)) (now (regs .entry))) pid value
-        (now (input .entry)) (now (reply .entry))) ⌝ }
+    ensures { λ r. ⌜ Stepped kind (now (t .entry)) (now (places .entry)) (now (mem .entry)) (now (regs .entry)) pid value
+        (now (input .entry)) (now (reply .entry)) r (now (t .exit)) (now (places .exit)) (now (mem .exit))
+        (now (regs .exit)) (now (reply .exit)) ⌝ }
 {
-    let d = capi_results::step_of(*t, kind, mem, regs, pid, value, input, reply);
-    store(t, d)
+    let e = step::step(*t, places, kind, mem, regs, pid, value, input, reply);
+    store(t, e)
 }

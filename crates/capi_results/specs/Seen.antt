@@ -8,7 +8,7 @@ use Rattle.rules.specs.declared.Answer.{Answer}
 use Rattle.rules.specs.Outcome.{World, world, Outcome, answerBytes}
 use Rattle.rules.specs.Step.{setupOf}
 use Rattle.target.specs.declared.Process.{Process}
-use Rattle.target.specs.declared.Target.{Target}
+use Rattle.target.specs.View.{Target}
 
 -- four bytes, the number lowest, then the bytes of the answer (01, "01 id or 02 and two bytes" of a trap, "00 or 01" of
 -- a schedule event)
