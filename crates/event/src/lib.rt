@@ -1,4 +1,5 @@
-// The events of the kernel, over a fit record: what each answers, and what it changes in the record.
+// The events of the kernel, over a fit record: what each answers, and what it changes in the record. One that has a
+// number other than 0 changes nothing.
 use rules::Answer;
 use step_effect::Change;
 use step_effect::Effect;
@@ -11,6 +12,7 @@ ghost use mathlib.Core.Path.{_≡_};
 ghost use mathlib.Core.List.{List, []};
 ghost use Prim.Native.Nat.{ℕ, _+_, _*_, _≤_};
 ghost use lib.ListN.{length, replicate};
+ghost use Rattle.common.specs.Numbers.{accepted};
 ghost use Rattle.memory.specs.Head.{house};
 ghost use Rattle.target.specs.Limits.{blockSize, maxPlain, maxProcesses, stopped};
 ghost use Rattle.rules.specs.Outcome.{world};
@@ -56,6 +58,7 @@ pub fn trap(
     ensures { λ r. ⌜ effectOutcome t r (now (places .entry)) (now (mem .entry)) (now (regs .exit)) []
         ≡ trapRule house (world (viewOf t (now (places .entry))) (now (mem .entry)) (now (regs .entry))) pid
         (now (block .entry)) ⌝ }
+    ensures { λ r. ⌜ ((r .number ≡ accepted → ⊥) → r .change ≡ change.Same) ⌝ }
 {
     let found = target_fit::find(t, pid);
     let Lookup::At(i, p) = found else {
@@ -88,6 +91,7 @@ pub fn schedule(t: Target, regs: &mut [u8], pid: u32, block: &[u8]) -> Effect
         × (length (now block) ≡ blockSize) ⌝ }
     ensures { λ r. ⌜ ((words mem : List ℕ) → effectOutcome t r words mem (now (regs .exit)) []
         ≡ scheduleRule (world (viewOf t words) mem (now (regs .entry))) pid (now (block .entry))) ⌝ }
+    ensures { λ r. ⌜ ((r .number ≡ accepted → ⊥) → r .change ≡ change.Same) ⌝ }
 {
     let found = target_fit::find(t, pid);
     let Lookup::At(i, p) = found else {
@@ -104,6 +108,7 @@ pub fn state(t: Target, pid: u32, value: u8) -> Effect
     requires { ⌜ t .count ≤ maxProcesses ⌝ }
     ensures { λ r. ⌜ ((words mem regs : List ℕ) → effectOutcome t r words mem regs []
         ≡ stateRule (world (viewOf t words) mem regs) pid value) ⌝ }
+    ensures { λ r. ⌜ ((r .number ≡ accepted → ⊥) → r .change ≡ change.Same) ⌝ }
 {
     let found = target_fit::find(t, pid);
     let Lookup::At(i, p) = found else {

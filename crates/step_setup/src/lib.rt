@@ -1,17 +1,19 @@
-// Setup: the record of a window and its processes.
+// Setup: the record of a window and its processes. Its table is new, and so holds no place of the pool.
 use rules::Answer;
 use step_effect::Done;
 use target::Process;
 use target::Table;
 use target::Target;
 ghost use mathlib.Core.Path.{_≡_};
-ghost use mathlib.Core.List.{[]};
+ghost use mathlib.Core.List.{List, []};
+ghost use Prim.Native.Nat.{ℕ};
 ghost use Rattle.common.specs.Tab.{tab};
 ghost use Rattle.rules.specs.Outcome.{world, outcome};
 ghost use Rattle.rules.specs.Step.{beginning, setupOf};
 ghost use Rattle.rules.specs.declared.Answer.the-variants as answer;
-ghost use Rattle.target.specs.Fresh.{emptyTarget};
+ghost use Rattle.target.specs.Fresh.{emptyRecord};
 ghost use Rattle.target.specs.Limits.{maxProcesses};
+ghost use Rattle.target.specs.View.{viewOf};
 
 // The first `count` processes begin Ready and unmarked.
 fn processes_of(
@@ -47,7 +49,7 @@ fn processes_of(
 
 // A refused setup leaves the empty record.
 fn refused(number: u8) -> Done
-    ensures { λ r. ⌜ r ≡ record { number = number; answer = answer.Nothing; target = emptyTarget } ⌝ }
+    ensures { λ r. ⌜ r ≡ record { number = number; answer = answer.Nothing; target = emptyRecord } ⌝ }
 {
     let empty = Target::empty();
     Done {
@@ -67,8 +69,9 @@ pub fn setup(
     mem: &[u8],
     regs: &[u8],
 ) -> Done
-    ensures { λ r. ⌜ outcome (r .number) (r .answer) (world (r .target) (now (mem .entry)) (now (regs .entry))) []
-        ≡ setupOf base size pids addresses count (now (mem .entry)) (now (regs .entry)) ⌝ }
+    ensures { λ r. ⌜ ((words : List ℕ) → outcome (r .number) (r .answer)
+        (world (viewOf (r .target) words) (now (mem .entry)) (now (regs .entry))) []
+        ≡ setupOf base size pids addresses count (now (mem .entry)) (now (regs .entry))) ⌝ }
 {
     let processes = processes_of(pids, addresses, count);
     if !target_fit::window_fit(base, size) {

@@ -1,4 +1,5 @@
--- Laws of the view of a record: an entry by its index, and what does not depend on the pool. Assumes nothing.
+-- Laws of the view of a record: an entry by its index, what does not depend on the pool, and the new table. Assumes
+-- nothing.
 use mathlib.Core.Path.{_≡_, refl, ap, _∙_}
 use mathlib.Core.Bool.{Bool, cond}
 use mathlib.Core.List.{List, [], _∷_, map}
@@ -8,12 +9,13 @@ use lib.Dec.{eqb}
 use lib.ListN.{length, getD, take, drop}
 use lib.Seq.{drop-drop}
 use Rattle.common.specs.First.{firstOf}
-use Rattle.pool_rows.specs.Rows.{total, startOf}
+use Rattle.pool_rows.specs.Rows.{total, startOf, afterAll}
 use Rattle.target.specs.declared.Element.{Element}
 use Rattle.target.specs.declared.Entry.{Entry as StoredEntry}
-use Rattle.target.specs.View.{Entry, viewEntry, viewEntries, sizeOf, sizesOf, startAt}
+use Rattle.target.specs.View.{Entry, viewEntry, viewEntries, viewTable, sizeOf, sizesOf, startAt}
+use Rattle.target.specs.View.{draftSize}
 use Rattle.target.specs.Free.{isFree, firstFree}
-use Rattle.target.specs.Fresh.{noEntry, pastEntries}
+use Rattle.target.specs.Fresh.{noEntry, pastEntries, newTable, freshTable}
 
 pub length-view : (es : List StoredEntry) (pool : List Element) → length (viewEntries es pool) ≡ length es
 unfolding viewEntries
@@ -38,3 +40,8 @@ pub first-view : (es : List StoredEntry) (pool : List Element)
 unfolding firstFree viewEntries firstOf isFree
 first-view [] pool = refl
 first-view (e ∷ es) pool = ap (λ (n : ℕ). cond (eqb (e .used) 0) 0 (suc n)) (first-view es (drop (sizeOf e) pool))
+
+-- a new table holds no place: with any pool it is the fresh one
+pub view-new : (pool : List Element) → viewTable newTable pool ≡ freshTable
+unfolding viewEntries sizeOf draftSize afterAll
+view-new pool = refl
