@@ -1,51 +1,48 @@
--- The parts that are stored one after the other make the record after the change. Assumes nothing.
-use mathlib.Core.Path.{_≡_, refl}
+-- What a step over a record and a pool that are lent promises follows from what the step over a record by value does.
+-- Assumes nothing.
+use mathlib.Core.Path.{_≡_, refl, ap}
 use mathlib.Core.List.{List}
-use Prim.Native.Nat.{ℕ}
-use Rattle.target_change.specs.Parts.{holding, processesAfter, selectedAfter, currentAfter, draftAfter}
-use Rattle.target_entries.specs.Entries.{indexAfter, entryAfter}
-use Rattle.capi_parts.specs.Stored.{storeBeside, storeEntry, storePlains, storeFresh, storeDraft, afterOf}
-use Rattle.capi_parts.specs.declared.Left.{Left}
-use Rattle.step_effect.specs.Change.{applied}
-use Rattle.rules.specs.Record.{withTable, withDraft, withEntries, withCurrent, withProcesses, setState}
-use Rattle.step_effect.specs.declared.Change.{Change}
-use Rattle.step_effect.specs.declared.Change.the-variants.{Same, Plain, Current, State, Begin, Add, Drop, Plant, Remove}
-use Rattle.step_effect.specs.declared.Change.the-variants.{Restart}
+use Prim.Native.Nat.{ℕ, _+_, _*_, _%_}
+use native.Mathlib.Omega.{arith}
+use Rattle.common.specs.Bytes.{ofHighFirst, ofLowFirst}
+use Rattle.common.specs.Numbers.{accepted}
+use Rattle.rules.specs.Outcome.{world}
+use Rattle.rules.specs.declared.Answer.{Answer}
+use Rattle.step.specs.Kinds.{stepBy}
+use Rattle.step.specs.declared.StepKind.{StepKind}
+use Rattle.step_effect.specs.Change.{stored}
+use Rattle.step_effect.specs.Effect.{effectOutcome}
+use Rattle.step_effect.specs.declared.Change.the-variants.{Same}
+use Rattle.step_effect.specs.declared.Effect.{Effect}
 use Rattle.target.specs.declared.Target.{Target}
-use Rattle.capi_results.specs.Seen.{Seen, seen}
-use Rattle.capi_results.specs.Touched.{touchedOf}
-use Rattle.capi_results.specs.declared.Touched.{Touched}
+use Rattle.target.specs.View.{viewOf}
+use Rattle.capi_results.specs.Seen.{packed, resultOf, seenOf}
+use Rattle.capi_results.specs.Stepped.{Stepped}
 
-abbrev pub leftBy : ℕ → Touched → Change → List ℕ → Left
-leftBy result p c plain = record {
-  result = result;
-  beside = p .beside;
-  entry = p .entry;
-  plains = p .plains;
-  fresh = p .fresh;
-  draft = p .draft;
-  change = c;
-  plain = plain;
+-- the number is the lowest byte of the result
+lowest : (n : ℕ) → (0 + 256 * n) % 256 ≡ 0
+lowest n = omega arith
+
+accepted-lowest : (number : ℕ) (answer : Answer) → number ≡ accepted → resultOf number answer % 256 ≡ 0
+unfolding resultOf packed ofHighFirst ofLowFirst
+accepted-lowest number answer e = rw e (lowest _)
+
+-- a change of nothing leaves the record
+kept : (t : Target) (r : Effect) → r .change ≡ Same → stored t (r .change) (r .plain) ≡ t
+unfolding stored
+kept t r e = rw e refl
+
+pub steps : (kind : StepKind) (t : Target) (words mem regs : List ℕ) (pid value : ℕ) (input reply : List ℕ) (r : Effect)
+    (words′ mem′ regs′ reply′ : List ℕ)
+    → effectOutcome t r words′ mem′ regs′ reply′
+    ≡ stepBy kind (world (viewOf t words) mem regs) pid value input reply
+    → ((r .number ≡ accepted → ⊥) → (r .change ≡ Same) × (words′ ≡ words))
+    → Stepped kind t words mem regs pid value input reply (resultOf (r .number) (r .answer))
+    (stored t (r .change) (r .plain)) words′ mem′ regs′ reply′
+unfolding seenOf
+steps kind t words mem regs pid value input reply r words′ mem′ regs′ reply′ e k = record {
+  seen = ap seenOf e;
+  unchanged = λ other.
+      let same = k (λ zero. other (accepted-lowest (r .number) (r .answer) zero)) in
+      (kept t r (same .0), same .1);
 }
-
-pub stored : (result : ℕ) (c : Change) (plain : List ℕ) (t : Target) → afterOf t (leftBy result (touchedOf c) c plain)
-    ≡ applied t c plain
-unfolding afterOf storeBeside storeEntry storePlains storeFresh storeDraft touchedOf applied holding processesAfter
-    selectedAfter currentAfter draftAfter
-    indexAfter entryAfter withTable withDraft withEntries withCurrent withProcesses setState
-stored result Same plain t = refl
-stored result Plain plain t = refl
-stored result (Current pid) plain t = refl
-stored result (State i state wanted) plain t = refl
-stored result (Begin id) plain t = refl
-stored result (Add letter value) plain t = refl
-stored result Drop plain t = refl
-stored result (Plant site b0 b1) plain t = refl
-stored result (Remove k) plain t = refl
-stored result Restart plain t = refl
-
--- a result and a record in the place of their equals
-pub seen-same : (n m : ℕ) (t u : Target) (mem regs reply : List ℕ) (o : Seen) → n ≡ m → t ≡ u
-    → seen m u mem regs reply ≡ o
-    → seen n t mem regs reply ≡ o
-seen-same n m t u mem regs reply o p q r = rw (p, q) r

@@ -1,10 +1,10 @@
--- `capi_results::result_of` meets its contract: each arm packs the bytes of its answer. Assumes nothing.
+-- `capi_results::packed` meets its contract: each arm packs the bytes of its answer. Assumes nothing.
 use mathlib.Core.Path.{sym, ap, _∙_}
 use borrow.Author.Needs.{needs}
 use Rattle.rules.specs.Outcome.{answerBytes}
 use Rattle.capi_results.specs.Seen.{packed, resultOf}
-use Rattle.capi_results.proofs.result_of.Statement.{statement}
-use Rattle.capi_results.proofs.result_of.Tie as tie
+use Rattle.capi_results.proofs.packed.Statement.{statement}
+use Rattle.capi_results.proofs.packed.Tie as tie
 
 enum-told : tie.Need-enum-told
 enum-told c = search needs
@@ -56,8 +56,8 @@ returns-5 : tie.Need-returns-5
 unfolding resultOf packed answerBytes
 returns-5 c = c .word5 .ensures ∙ sym (ap (resultOf _) (c .before .enum-told3 .given .1))
 
-pub result-of-spec : {M : Type 1} → statement M
-result-of-spec =
+pub packed-spec : {M : Type 1} → statement M
+packed-spec =
     tie.close
     (tie.spec
     enum-told

@@ -34,10 +34,11 @@ same-length-2 c = search needs
 
 returns : tie.Need-returns
 unfolding seenOf leaving setupFrom ofEach
-returns c =
+returns c words =
     let k = c .before in
     let s = k .before .before .before .before .before .before .before .before .before .before .before .before in
-    rw (c .give-whole .ensures) (ap (λ (o : Outcome). seenOf (leaving (now (s .args .reply)) o)) (k .setup .ensures))
+    rw (c .give-whole .ensures)
+    (ap (λ (o : Outcome). seenOf (leaving (now (s .args .reply)) o)) (k .setup .ensures words))
 
 pub setup-spec : {M : Type 1} → statement M
 setup-spec =
