@@ -40,7 +40,7 @@ module _ (pool : List Element) (from n i : ℕ) where
 
 -- ---- the depth after an element
 
--- the letters of the elements, each kind in order, as a `match` has them
+-- the letters of the elements, each kind in order, as a `match` has its keys
 abbrev pushes : List ℕ
 pushes = 107 ∷ 112 ∷ []
 
@@ -58,6 +58,16 @@ module _ (d letter value r : ℕ) (h : d ≡ 0 → ⊥) where
   pub after-push : OneOf pushes letter → r ≡ d + 1 → r ≡ depthAfter d letter value
   unfolding depthAfter byKeys among codes
   after-push k e = e ∙ at-keys (λ x. depthAfter d x value) (d + 1) pushes letter (some _, (some _, tt)) k
+
+  -- a letter that does not push gives 0 with a value that is not 0, an element or not
+  pub after-value : (OneOf pushes letter → ⊥) → (value ≡ 0 → ⊥) → r ≡ 0 → r ≡ depthAfter d letter value
+  unfolding depthAfter byKeys among codes
+  after-value p v e =
+      rw (ne-eqb d 0 h, among-no (codes "kp") letter p, ne-eqb value 0 v)
+      (e ∙ either none (among (codes "*") letter) refl (either none (among (codes "&=!ao") letter) refl refl))
+    where
+      none : ℕ → Type 0
+      none a = 0 ≡ a
 
   pub after-load : letter ≡ 42 → r ≡ cond (eqb value 0) d 0 → r ≡ depthAfter d letter value
   unfolding depthAfter byKeys among codes

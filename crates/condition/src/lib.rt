@@ -36,14 +36,24 @@ fn depth_after(d: u32, letter: u32, value: u32) -> u32
     requires { ⌜ d ≤ maxElements + 1 ⌝ }
     ensures { λ r. ⌜ (r ≡ depthAfter d letter value) × (r ≤ d + 1) ⌝ }
 {
+    // p, k, then *, then & = ! a o. A chain of tests, not one `match`, so that the compiler inlines this function.
     if d == 0 {
         return 0;
     }
+    if letter == 0x70 {
+        return d + 1;
+    }
+    if letter == 0x6b {
+        return d + 1;
+    }
+    if value != 0 {
+        return 0;
+    }
+    if letter == 0x2a {
+        return d;
+    }
     match letter {
-        // k p, then *, then & = ! a o
-        0x6b | 0x70 => d + 1,
-        0x2a => { if value == 0 { d } else { 0 } }
-        0x26 | 0x3d | 0x21 | 0x61 | 0x6f => { if value == 0 { d - 1 } else { 0 } }
+        0x26 | 0x3d | 0x21 | 0x61 | 0x6f => d - 1,
         _ => 0,
     }
 }
