@@ -23,7 +23,9 @@ use Rattle.rules.specs.Condition.{inHand, joined, addElement, siteFree}
 use Rattle.rules.proofs.FitFacts.{parts}
 use Rattle.rules.specs.Outcome.{World}
 use Rattle.target.specs.declared.Element.{Element}
-use Rattle.target.specs.View.{Entry, Target, viewOf}
+use Rattle.target.specs.Free.{firstFree}
+use Rattle.target.specs.View.{Entry, Target, elementsOf, viewOf}
+use Rattle.target_fit.proofs.Slots.{first-free, target-small}
 use Rattle.target.specs.declared.Target.{Target as StoredTarget}
 use Rattle.target.proofs.Target as target
 use Rattle.breakpoint.proofs.Laws.{ready-good}
@@ -40,6 +42,14 @@ pub id-found : (t : Target) (s : Scan) (id : ℕ) → s .ids ≡ idsOf (t .table
     → firstOf (eqb id) (s .ids) ≡ entryOf (t .table .entries) id
 unfolding entryOf
 id-found t s id r = ap (firstOf (eqb id)) r
+
+-- the first free entry is the first that the scan's ids call free
+pub free-id : (t : StoredTarget) (words : List ℕ) (vs : List Val) → Is target.the-row t vs → (s : Scan)
+    → s .ids ≡ idsOf (viewOf t words .table .entries)
+    → firstOf (eqb 256) (s .ids) ≡ firstFree (viewOf t words .table .entries)
+free-id t words vs h s r =
+    ap (firstOf (eqb 256)) r
+    ∙ first-free (viewOf t words .table .entries) (target-small t vs (elementsOf words) h)
 
 -- no breakpoint is at an address where the search ends
 pub at-end : (es : List Entry) (address : ℕ) → length es ≡ 8

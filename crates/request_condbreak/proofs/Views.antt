@@ -2,7 +2,7 @@
 use mathlib.Core.Path.{_≡_, refl, ap, _∙_}
 use mathlib.Core.Bool.{true, false}
 use mathlib.Core.List.{List, [], _∷_, _++_}
-use Prim.Native.Nat.{ℕ, _+_, _-_, _<_, _≤_}
+use Prim.Native.Nat.{ℕ, suc, _+_, _-_, _<_, _≤_}
 use native.Mathlib.Omega.{arith}
 use borrow.Author.Tests.{ne-eqb, eqb-true}
 use lib.ListN.{length, getD, set, replicate}
@@ -11,6 +11,7 @@ use Rattle.condition.specs.declared.Room.the-variants.{Fits}
 use Rattle.pool.specs.Pool.{joined, planted, removed}
 use Rattle.pool.proofs.View.{view-joined, hand-joined, view-planted, view-removed, hand-removed}
 use Rattle.pool_rows.specs.Rows.{afterAll}
+use Rattle.pool_turn.specs.Turned.{turned}
 use Rattle.memory.specs.Head.{house, trapBytes}
 use Rattle.memory.specs.Overlay.{plainAt, laidOver}
 use Rattle.rules.specs.Breakpoint.{entryWith, sites, plains, madeEntry, planted as plantedBy, removed as removedBy}
@@ -28,7 +29,7 @@ use Rattle.target.proofs.View.{length-view, view-at}
 use Rattle.target_fit.specs.Fit.{heldOf}
 use Rattle.target_fit.specs.declared.Scan.{Scan}
 use Rattle.request_condbreak.specs.Needs.{Joinable}
-use Rattle.target.specs.View.{Table, elementsOf, sizeOf, sizesOf, draftSize, heldBy, viewEntries, viewDraft, viewOf}
+use Rattle.target.specs.View.{Table, elementsOf, sizeOf, draftSize, startAt, heldBy, viewEntries, viewOf}
 use Rattle.step_effect.specs.Change.{stored}
 use Rattle.step_effect.specs.Effect.{effectOf, requestOutcome}
 use Rattle.step_effect.specs.declared.Change.the-variants.{Hand, Plant, Remove}
@@ -122,23 +123,23 @@ module _ (t : Target) (words old regs : List ℕ) where
   abbrev w : World
   w = world (viewOf t words) old regs
 
-  pub plants : (site k b0 b1 : ℕ) (after mem : List ℕ) (r : Effect)
+  pub plants : (site k b0 b1 f m n : ℕ) (after mem : List ℕ) (r : Effect)
       → r ≡ effectOf 0 Nothing (Plant k site b0 b1) (replicate 16 0) (bytesOf Rcondbreak)
       → (t .table .draft .active ≡ 0 → ⊥) → k ≡ firstFree (viewOf t words .table .entries)
-      → k < length (t .table .entries)
-      → elementsOf after ≡ planted (t .table .entries) (t .table .draft .count) k (elementsOf words)
-      → heldBy (t .table .entries) (t .table .draft .count) ≤ length (elementsOf words)
+      → k < length (t .table .entries) → f ≡ startAt (t .table .entries) k → m ≡ heldBy (t .table .entries) 0
+      → n ≡ heldBy (t .table .entries) (t .table .draft .count) → elementsOf after ≡ turned f m n (elementsOf words)
+      → n ≤ length (elementsOf words)
       → (ss ps : List ℕ) → ss ≡ sites (viewOf t words) → ps ≡ plains (viewOf t words)
       → b0 ≡ plainAt 2 ss ps old (site - t .base) → b1 ≡ plainAt 2 ss ps old (site - t .base + 1)
       → mem ≡ laidOver (trapBytes house) ((site - t .base) ∷ []) old
       → requestOutcome t r after mem regs ≡ replied Rcondbreak (plantedBy house w site)
-  unfolding plantedBy madeEntry
-  plants site k b0 b1 after mem r e hand q b h few ss ps i j x y l =
+  unfolding plantedBy madeEntry planted
+  plants site k b0 b1 f m n after mem r e hand q b zf zm zn h few ss ps i j x y l =
       let free : getD (t .table .entries) k pastEntries .used ≡ 0 =
       rw q (free-stored (t .table .entries) (elementsOf words) (omega (arith, q, b))) in
       replies t Rcondbreak after mem regs e refl
       ∙ rw (
-        view-made t (replicate 16 0) words hand k site b0 b1 after b free h few,
+        view-made t (replicate 16 0) words hand k site b0 b1 after b free (rw (zf, zm, zn) at h) (rw zn at few),
         q,
         x,
         y,
@@ -149,28 +150,30 @@ module _ (t : Target) (words old regs : List ℕ) where
 
   -- ---- d, whole: the entry is free, its elements are taken out, and its plain bytes are back
 
-  pub deletes : (k c : ℕ) (after mem : List ℕ) (r : Effect)
+  pub deletes : (k f m n : ℕ) (after mem : List ℕ) (r : Effect)
       → r ≡ effectOf 0 Nothing (Remove k) (replicate 16 0) (bytesOf Rcondbreak) → k < length (t .table .entries)
-      → c ≡ draftSize (t .table .draft) → elementsOf after ≡ removed (t .table .entries) c k (elementsOf words)
-      → heldBy (t .table .entries) c ≤ length (elementsOf words) → mem ≡ removedBy w k .mem
+      → f ≡ startAt (t .table .entries) k → m ≡ startAt (t .table .entries) (suc k)
+      → n ≡ heldBy (t .table .entries) (draftSize (t .table .draft))
+      → elementsOf after ≡ turned f m n (elementsOf words)
+      → n ≤ length (elementsOf words) → mem ≡ removedBy w k .mem
       → requestOutcome t r after mem regs ≡ replied Rcondbreak (removedBy w k)
-  unfolding removedBy
-  deletes k c after mem r e b z h few l =
+  unfolding removedBy removed
+  deletes k f m n after mem r e b zf zm zn h few l =
       replies t Rcondbreak after mem regs e refl
-      ∙ rw (view-freed t (replicate 16 0) words k after b (rw z at h) (rw z at few), l)
+      ∙ rw (view-freed t (replicate 16 0) words k after b (rw (zf, zm, zn) at h) (rw zn at few), l)
 
 -- ---- an element that fits, whole
 
-pub adds : (t : Target) (words mem regs : List ℕ) (e : Element) (after : List ℕ) (r : Effect)
+pub adds : (t : Target) (words mem regs : List ℕ) (e : Element) (n : ℕ) (after : List ℕ) (r : Effect)
     → r ≡ effectOf 0 Nothing (Hand (t .table .draft .active) (t .table .draft .id) (t .table .draft .count + 1))
     (replicate 16 0) (bytesOf Rcondbreak)
-    → (t .table .draft .active ≡ 0 → ⊥)
-    → elementsOf after ≡ joined (t .table .entries) (t .table .draft .count) e (elementsOf words)
-    → heldBy (t .table .entries) (t .table .draft .count) < length (elementsOf words)
+    → (t .table .draft .active ≡ 0 → ⊥) → n ≡ heldBy (t .table .entries) (t .table .draft .count)
+    → elementsOf after ≡ set (elementsOf words) n e → n < length (elementsOf words)
     → requestOutcome t r after mem regs ≡ joinedBy (world (viewOf t words) mem regs) e Fits
-unfolding joinedBy
-adds t words mem regs e after r q hand h few =
-    replies t Rcondbreak after mem regs q refl ∙ rw (view-more t (replicate 16 0) words hand e after h few)
+unfolding joinedBy joined
+adds t words mem regs e n after r q hand z h few =
+    replies t Rcondbreak after mem regs q refl
+    ∙ rw (view-more t (replicate 16 0) words hand e after (rw z at h) (rw z at few))
 
 -- the room for it, by the scan
 pub room-is : (u : Table) (s : Scan) (letter value : ℕ) → Joinable u s → (u .draft .active ≡ 0 → ⊥)

@@ -4,6 +4,7 @@ use mathlib.Core.List.{List}
 use Prim.Native.Nat.{ℕ, _+_, _-_, _≤_, _<_}
 use lib.ListN.{length}
 use Rattle.condition.specs.Depth.{depthOf}
+use Rattle.target_fit.specs.Arrays.{idsOf}
 use Rattle.target_fit.specs.Fit.{heldOf}
 use Rattle.target_fit.specs.declared.Scan.{Scan}
 use Rattle.rules.specs.Breakpoint.{sites, plains}
@@ -22,10 +23,12 @@ pub record Joinable (u : Table) (s : Scan) : Type 0 where
 
 -- a breakpoint may be made at a site: it lies in the window, something is in hand, and an entry is free
 pub record Plantable (t : Target) (s : Scan) (mem : List ℕ) (site : ℕ) : Type 0 where
+  pub ids : s .ids ≡ idsOf (t .table .entries)
   pub traps : s .sites ≡ sites t
   pub plain : s .plain ≡ plains t
   pub low : t .base ≤ site
   pub high : site - t .base + 2 ≤ length mem
   pub hand : t .table .draft .active ≡ 0 → ⊥
   pub room : firstFree (t .table .entries) < maxEntries
+  pub held : s .held ≡ heldOf (t .table)
   pub few : heldOf (t .table) ≤ maxPlaces

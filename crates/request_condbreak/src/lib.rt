@@ -3,7 +3,6 @@ use condition::Room;
 use rules::Answer;
 use step_effect::Change;
 use step_effect::Effect;
-use target::Draft;
 use target::Element;
 use target::Entry;
 use target::Table;
@@ -18,7 +17,7 @@ ghost use lib.ListN.{replicate};
 ghost use Rattle.memory.specs.Head.{house};
 ghost use Rattle.target.specs.Limits.{maxPlain};
 ghost use Rattle.target.specs.declared.Target.{Target};
-ghost use Rattle.target.specs.View.{draftSize, viewOf};
+ghost use Rattle.target.specs.View.{viewOf};
 ghost use Rattle.rules.specs.Outcome.{world, replied};
 ghost use Rattle.step_effect.specs.Effect.{effectOf, requestOutcome};
 ghost use Rattle.step_effect.specs.Ready.{Ready};
@@ -63,7 +62,7 @@ fn begin(t: Target, s: Scan, val: u32) -> Effect
     if target_scan::entry_of(&ids, val) < Table::ENTRIES {
         return fail(Reason::Inval);
     }
-    if t.table.first_free() == Table::ENTRIES {
+    if target_scan::entry_of(&ids, Scan::FREE_ID) == Table::ENTRIES {
         return fail(Reason::Count);
     }
     let id = val as u8;
@@ -85,8 +84,7 @@ fn add(t: Target, s: Scan, places: &mut [u32; Table::WORDS], letter: u8, value: 
     let room = condition::room_for(s.depth, d.count as usize, s.held, code, value);
     match room {
         Room::Fits => {
-            let entries = table.entries;
-            pool::join(places, entries, d.count, Element { letter: code, value });
+            pool::join(places, s.held, Element { letter: code, value });
             done(Change::Hand(d.active, d.id, d.count + 1))
         }
         Room::Full => fail(Reason::Count),
@@ -107,11 +105,12 @@ fn plant(t: Target, s: Scan, places: &mut [u32; Table::WORDS], mem: &mut [u8], s
     let b0 = memory::plain_at(mem, &sites, &plain, at);
     let b1 = memory::plain_at(mem, &sites, &plain, at + 1);
     memory::lay(mem, at, memory::TRAP_FIRST, memory::TRAP_SECOND);
+    let ids = s.ids;
+    let k = target_scan::entry_of(&ids, Scan::FREE_ID);
     let table = t.table;
     let entries = table.entries;
     let d = table.draft;
-    let k = table.first_free();
-    pool::plant(places, entries, d.count, k);
+    pool::turn(places, pool::start_of(entries, k), s.held - d.count as usize, s.held);
     done(Change::Plant(k, site, b0, b1))
 }
 
@@ -146,16 +145,6 @@ fn set(t: Target, s: Scan, places: &mut [u32; Table::WORDS], mem: &mut [u8], val
     plant(t, s, places, mem, val)
 }
 
-// How many places the condition in hand has.
-fn in_hand(d: Draft) -> u8
-    ensures { λ r. ⌜ r ≡ draftSize d ⌝ }
-{
-    if d.active == 0 {
-        return 0;
-    }
-    d.count
-}
-
 // `d`: removes the breakpoint with an id. The condition in hand stays.
 fn delete(t: Target, s: Scan, places: &mut [u32; Table::WORDS], mem: &mut [u8], val: u32) -> Effect
     requires { ⌜ Ready house (viewOf t (now places)) s (now mem) ⌝ }
@@ -174,8 +163,8 @@ fn delete(t: Target, s: Scan, places: &mut [u32; Table::WORDS], mem: &mut [u8], 
         breakpoint::put_back(s, mem, k);
         let table = t.table;
         let entries = table.entries;
-        let draft = table.draft;
-        pool::remove(places, entries, in_hand(draft), k);
+        let from = pool::start_of(entries, k);
+        pool::turn(places, from, pool::start_of(entries, k + 1), s.held);
         return done(Change::Remove(k));
     }
     Effect::answering(Answer::Nothing, Change::Same, unknown)

@@ -1,20 +1,16 @@
 -- Laws of the view of a record: an entry by its index, what does not depend on the pool, and the new table. Assumes
 -- nothing.
 use mathlib.Core.Path.{_≡_, refl, ap, _∙_}
-use mathlib.Core.Bool.{Bool, cond}
 use mathlib.Core.List.{List, [], _∷_, map}
 use Prim.Native.Nat.{ℕ, zero, suc, _+_, _<_}
 use native.Mathlib.Nat.{not-suc-le-zero, le-of-suc-le-suc}
-use lib.Dec.{eqb}
 use lib.ListN.{length, getD, take, drop}
 use lib.Seq.{drop-drop}
-use Rattle.common.specs.First.{firstOf}
 use Rattle.pool_rows.specs.Rows.{total, startOf, afterAll}
 use Rattle.target.specs.declared.Element.{Element}
 use Rattle.target.specs.declared.Entry.{Entry as StoredEntry}
 use Rattle.target.specs.View.{Entry, viewEntry, viewEntries, viewTable, sizeOf, sizesOf, startAt}
 use Rattle.target.specs.View.{draftSize}
-use Rattle.target.specs.Free.{isFree, firstFree}
 use Rattle.target.specs.Fresh.{noEntry, pastEntries, newTable, freshTable}
 
 pub length-view : (es : List StoredEntry) (pool : List Element) → length (viewEntries es pool) ≡ length es
@@ -33,13 +29,6 @@ view-at (e ∷ es) pool (suc k) h =
     view-at es (drop (sizeOf e) pool) k (le-of-suc-le-suc h)
     ∙ ap (λ (l : List Element). viewEntry (getD es k pastEntries) (take (sizeOf (getD es k pastEntries)) l))
     (drop-drop (startAt es k) (sizeOf e) pool)
-
--- the first free entry does not depend on the pool
-pub first-view : (es : List StoredEntry) (pool : List Element)
-    → firstFree (viewEntries es pool) ≡ firstOf (λ (e : StoredEntry). eqb (e .used) 0) es
-unfolding firstFree viewEntries firstOf isFree
-first-view [] pool = refl
-first-view (e ∷ es) pool = ap (λ (n : ℕ). cond (eqb (e .used) 0) 0 (suc n)) (first-view es (drop (sizeOf e) pool))
 
 -- a new table holds no place: with any pool it is the fresh one
 pub view-new : (pool : List Element) → viewTable newTable pool ≡ freshTable

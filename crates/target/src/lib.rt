@@ -6,11 +6,7 @@
 // The elements of all conditions stand in a pool of words that is lent beside the record and never copied: in the order
 // of the entries, then those of the condition in hand (specs/View).
 ghost use mathlib.Core.Path.{_≡_};
-ghost use mathlib.Core.List.{List};
-ghost use Rattle.target.specs.declared.Element.{Element};
-ghost use Rattle.target.specs.View.{viewEntries};
 ghost use Rattle.target.specs.Fresh.{freeEntry, noDraft, newTable, emptyRecord};
-ghost use Rattle.target.specs.Free.{firstFree};
 
 // One element of a condition: a letter, and the value of `k` and `p`.
 #[repr(C)]
@@ -125,24 +121,6 @@ impl Table {
             entries: [entry; Table::ENTRIES],
             draft: draft,
         }
-    }
-
-    // The lowest index of a free entry, or 8 where none is free.
-    pub fn first_free(self) -> usize
-        ensures { λ r. ⌜ ((pool : List Element) → r ≡ firstFree (viewEntries (self .entries) pool)) ⌝ }
-    {
-        let mut k: usize = 0;
-        let index = loop {
-            if k == Table::ENTRIES {
-                break k;
-            }
-            let e = self.entries[k];
-            if e.used == 0 {
-                break k;
-            }
-            k += 1;
-        };
-        index
     }
 }
 

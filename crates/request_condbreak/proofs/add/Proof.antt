@@ -52,14 +52,17 @@ module _ (a : tie.After-room-for) (r : Room) (e : a .room-for .result ≡ r) whe
 
 -- an element that fits finds a place that is not held, and fewer than 64 before it
 module _ (a : tie.After-room-for) (e : a .room-for .result ≡ Fits) where
-  free : heldBy (start a .args .t .table .entries) (start a .args .t .table .draft .count) < 128
-  free =
+  held : start a .args .s .held ≡ heldBy (start a .args .t .table .entries) (start a .args .t .table .draft .count)
+  held =
       let s = start a in
       let t = s .args .t in
       rw (
         table-held (t .table) (elementsOf (now (s .args .places))),
         size-hand t (replicate 16 0) (now (s .args .places)) (hand a Fits e),
-      ) at (room-fits _ _ _ (room a Fits e) .1)
+      ) at (s .pre .held)
+
+  free : start a .args .s .held < 128
+  free = omega (arith, room-fits _ _ _ (room a Fits e) .1, start a .pre .held)
 
   few : start a .args .t .table .draft .count < 64
   few = omega (arith, room-fits _ _ _ (room a Fits e) .0, start a .pre .whole (hand a Fits e))
@@ -81,10 +84,10 @@ enum-told : tie.Need-enum-told
 enum-told c = search needs
 
 join-requires : tie.Need-join-requires
-join-requires c κs = let t = c .before .before in free (t .before .before) (t .enum-told .given .1)
+join-requires c κs = let t = c .before in free (t .before .before) (t .enum-told .given .1)
 
-add-t18 : tie.Need-add-t18
-add-t18 c = let t = c .before .before .before .before in omega (arith, few (t .before .before) (t .enum-told .given .1))
+add-t17 : tie.Need-add-t17
+add-t17 c = let t = c .before .before .before in omega (arith, few (t .before .before) (t .enum-told .given .1))
 
 done-requires : tie.Need-done-requires
 done-requires c κs = search needs
@@ -104,12 +107,12 @@ fail-requires-3 c κs = search needs
 returns-2 : tie.Need-returns-2
 returns-2 c =
     let j = c .before .before in
-    let t = j .before .before .before in
+    let t = j .before .before in
     let a = t .before .before in
     let s = start a in
     let q = t .enum-told .given .1 in
-    λ mem regs. adds (s .args .t) (now (s .args .places)) mem regs (element s) _ _ (c .done .ensures) (hand a Fits q)
-    (j .join .ensures .0) (omega (arith, free a q, j .join .ensures .1))
+    λ mem regs. adds (s .args .t) (now (s .args .places)) mem regs (element s) _ _ _ (c .done .ensures) (hand a Fits q)
+    (held a q) (j .join .ensures .0) (omega (arith, free a q, j .join .ensures .1))
     ∙ decided a Fits q mem regs
 
 returns-3 : tie.Need-returns-3
@@ -134,7 +137,7 @@ add-spec =
     room-for-requires
     enum-told
     join-requires
-    add-t18
+    add-t17
     done-requires
     enum-told-2
     fail-requires-2

@@ -22,7 +22,7 @@ use Rattle.target.specs.View.{Target, elementsOf, viewOf}
 use Rattle.target_fit.proofs.Slots.{eight-entries}
 use Rattle.wire.specs.declared.Message.the-variants.{Rcondbreak}
 use Rattle.wire_text.specs.declared.Reason.the-variants.{Count, Inval}
-use Rattle.request_condbreak.proofs.Laws.{id-found}
+use Rattle.request_condbreak.proofs.Laws.{id-found, free-id}
 use Rattle.request_condbreak.proofs.Views.{view-begun}
 use Rattle.request_condbreak.proofs.begin.Statement.{statement}
 use Rattle.request_condbreak.proofs.begin.Tie as tie
@@ -72,6 +72,14 @@ found : (f : tie.After-entry-of) (words : List ℕ)
 found f words r =
     let s = start f in f .entry-of .ensures ∙ id-found (viewOf (s .args .t) words) (s .args .s) (s .args .val) r
 
+-- the entry that is free first
+free : (g : tie.After-entry-of2) (words : List ℕ)
+    → let s = start (g .before .before .before) in s .args .s .ids ≡ idsOf (viewOf (s .args .t) words .table .entries)
+    → g .entry-of2 .result ≡ firstFree (viewOf (s .args .t) words .table .entries)
+free g words r =
+    let s = start (g .before .before .before) in
+    g .entry-of2 .ensures ∙ free-id (s .args .t) words _ (s .good .0) (s .args .s) r
+
 fail-requires : tie.Need-fail-requires
 fail-requires c κs = search needs
 
@@ -92,8 +100,8 @@ returns-2 c =
     λ words mem regs r. c .fail2 .ensures _ words mem regs
     ∙ used (viewOf (s .args .t) words) mem regs (s .args .val) (eight-at s words) (omega arith) (omega (arith, found f words r))
 
-first-free-requires : tie.Need-first-free-requires
-first-free-requires c κs = search needs
+entry-of-requires-2 : tie.Need-entry-of-requires-2
+entry-of-requires-2 c κs = search needs
 
 fail-requires-3 : tie.Need-fail-requires-3
 fail-requires-3 c κs = search needs
@@ -101,12 +109,12 @@ fail-requires-3 c κs = search needs
 returns-3 : tie.Need-returns-3
 returns-3 c =
     let g = c .before .before in
-    let f = g .before .before in
+    let f = g .before .before .before in
     let s = start f in
     λ words mem regs r.
     c .fail3 .ensures _ words mem regs
     ∙ full (viewOf (s .args .t) words) mem regs (s .args .val) (eight-at s words) (omega arith) (omega (arith, found f words r))
-    (omega (arith, g .first-free .ensures (elementsOf words)))
+    (omega (arith, free g words r))
 
 cast-id : tie.Need-cast-id
 cast-id c = search needs
@@ -118,13 +126,13 @@ returns-4 : tie.Need-returns-4
 returns-4 c =
     let x = c .before in
     let g = x .before in
-    let f = g .before .before in
+    let f = g .before .before .before in
     let s = start f in
     λ words mem regs r.
     replies (s .args .t) Rcondbreak words mem regs (c .done .ensures) refl
     ∙ rw (view-begun (s .args .t) (replicate 16 0) words (s .args .val))
     (begins (viewOf (s .args .t) words) mem regs (s .args .val) (eight-at s words) (omega arith)
-    (omega (arith, found f words r)) (λ h. x .if3 .left (omega (arith, g .first-free .ensures (elementsOf words)))))
+    (omega (arith, found f words r)) (λ h. x .if3 .left (omega (arith, free g words r))))
 
 pub begin-spec : {M : Type 1} → statement M
 begin-spec =
@@ -135,7 +143,7 @@ begin-spec =
     entry-of-requires
     fail-requires-2
     returns-2
-    first-free-requires
+    entry-of-requires-2
     fail-requires-3
     returns-3
     cast-id

@@ -3,7 +3,8 @@
 use mathlib.Core.Path.{_≡_, ap, _∙_}
 use mathlib.Core.Bool.{false}
 use mathlib.Core.List.{List}
-use Prim.Native.Nat.{ℕ, _≤_}
+use Prim.Native.Nat.{ℕ, suc, _≤_}
+use native.Mathlib.Numerals.{add-one}
 use native.Mathlib.Omega.{arith}
 use borrow.Author.Needs.{needs}
 use borrow.Author.Tests.{lt-ltb, le-ltb, le-leb, lt-leb}
@@ -18,7 +19,8 @@ use Rattle.rules.proofs.FitFacts.{facts-of}
 use Rattle.rules.proofs.Found.{id-is-used}
 use Rattle.step_effect.specs.Change.{stored}
 use Rattle.step_effect.proofs.Laws.{replies}
-use Rattle.target.specs.View.{elementsOf, draftSize, heldBy, viewOf}
+use Rattle.pool.proofs.Sizes.{start-up, start-held}
+use Rattle.target.specs.View.{elementsOf, draftSize, startAt, heldBy, viewOf}
 use Rattle.target.specs.Free.{isFree}
 use Rattle.target_fit.specs.Fit.{entryAt, entryOf}
 use Rattle.target_fit.proofs.Slots.{eight-entries, eight-stored, two-each}
@@ -42,10 +44,13 @@ module _ (s : tie.Start) where
   eight = eight-entries (s .args .t) _ (elementsOf words) (s .good .0)
 
   -- the places held, with those of the condition in hand
-  few : heldBy (s .args .t .table .entries) (draftSize (s .args .t .table .draft)) ≤ 128
+  held : s .args .s .held ≡ heldBy (s .args .t .table .entries) (draftSize (s .args .t .table .draft))
+  held = rw (table-held (s .args .t .table) (elementsOf words)) at (s .pre .held)
+
+  few : s .args .s .held ≤ 128
   few =
       let good = ready-good (s .args .t) words _ (s .good .0) (s .args .s) _ (s .pre) in
-      rw (table-held (s .args .t .table) (elementsOf words)) at (facts-of (viewOf (s .args .t) words) _ good .held)
+      omega (arith, s .pre .held, facts-of (viewOf (s .args .t) words) _ good .held)
 
 found : (f : tie.After-entry-of)
     → f .entry-of .result ≡ entryOf (viewOf (start f .args .t) (words (start f)) .table .entries) (start f .args .val)
@@ -70,12 +75,17 @@ removable t =
       used = ap (λ (k : ℕ). isFree (entryAt es k)) (found f) ∙ u;
     }
 
--- where the bytes are put back, and where the entry is found, from where the places in hand are known
-abbrev put-back-at : tie.After-in-hand → tie.After-put-back
-put-back-at h = h .before .before .before .before .before .before .before
+-- where the bytes are put back, and where the entry is found, from where its elements start
+abbrev put-back-at : tie.After-start-of → tie.After-put-back
+put-back-at h = h .before .before .before .before .before
 
-abbrev found-at : tie.After-in-hand → tie.Then2
+abbrev found-at : tie.After-start-of → tie.Then2
 found-at h = put-back-at h .before .before
+
+-- where the elements of the next entry start
+next-at : (n : tie.After-start-of2) → let t = found-at (n .before .before) in
+    n .start-of2 .result ≡ startAt (start (t .before) .args .t .table .entries) (suc (t .before .entry-of .result))
+next-at n = n .start-of2 .ensures .0 ∙ rw add-one
 
 bytes-of-requires : tie.Need-bytes-of-requires
 bytes-of-requires c κs = search needs
@@ -95,14 +105,27 @@ entry-of-requires c κs = search needs
 put-back-requires : tie.Need-put-back-requires
 put-back-requires c κs = search needs
 
-in-hand-requires : tie.Need-in-hand-requires
-in-hand-requires c κs = search needs
+start-of-requires : tie.Need-start-of-requires
+start-of-requires c κs = search needs
 
-remove-requires : tie.Need-remove-requires
-remove-requires c κs =
-    let t = found-at c in
+add-start-of : tie.Need-add-start-of
+add-start-of c = search needs
+
+start-of-requires-2 : tie.Need-start-of-requires-2
+start-of-requires-2 c κs = search needs
+
+turn-requires : tie.Need-turn-requires
+turn-requires c κs =
+    let h = c .before .before in
+    let t = found-at h in
     let s = start (t .before) in
-    (t .if2 .taken, omega (arith, ap (heldBy (s .args .t .table .entries)) (c .in-hand .ensures), few s))
+    let es = s .args .t .table .entries in
+    let k = t .before .entry-of .result in
+    let c′ = draftSize (s .args .t .table .draft) in (
+      omega (arith, h .start-of .ensures .0, next-at c, start-up es k),
+      omega (arith, next-at c, start-held es k c′, held s),
+      few s,
+    )
 
 done-requires : tie.Need-done-requires
 done-requires c κs = search needs
@@ -114,7 +137,8 @@ returns-2 : tie.Need-returns-2
 unfolding deleteBreakpoint
 returns-2 c =
     let r = c .before in
-    let h = r .before in
+    let n = r .before in
+    let h = n .before .before in
     let t = found-at h in
     let f = t .before in
     let s = start f in
@@ -123,9 +147,9 @@ returns-2 c =
     λ regs.
     let w = world (viewOf (a .t) (words s)) (now (a .mem)) regs in
     rw (le-leb (a .val) 255 (omega arith), lt-ltb (entryOf es (a .val)) (length es) (omega (arith, eight s, found f)))
-    (deletes (a .t) (words s) (now (a .mem)) regs _ _ _ _ _ (c .done .ensures)
-    (omega (arith, eight-stored (a .t) _ (s .good .0), t .if2 .taken)) (h .in-hand .ensures) (r .remove .ensures .0)
-    (omega (arith, ap (heldBy (a .t .table .entries)) (h .in-hand .ensures), few s, r .remove .ensures .1))
+    (deletes (a .t) (words s) (now (a .mem)) regs _ _ _ _ _ _ _ (c .done .ensures)
+    (omega (arith, eight-stored (a .t) _ (s .good .0), t .if2 .taken)) (h .start-of .ensures .0) (next-at n) (held s)
+    (r .turn .ensures .0) (omega (arith, few s, r .turn .ensures .1))
     (put-back-at h .put-back .ensures (viewOf (a .t) (words s)) regs (removable t))
     ∙ ap (λ (k : ℕ). replied Rcondbreak (removed w k)) (found f))
 
@@ -152,8 +176,10 @@ delete-spec =
     returns
     entry-of-requires
     put-back-requires
-    in-hand-requires
-    remove-requires
+    start-of-requires
+    add-start-of
+    start-of-requires-2
+    turn-requires
     done-requires
     same-length
     returns-2

@@ -80,12 +80,14 @@ plant-requires c κs =
     let s = start f in
     let hand = f .before .if1 .left in
     record {
+      ids = s .pre .ids;
       traps = s .pre .sites;
       plain = s .pre .plain;
       low = site-low w (s .args .val) (free e []);
       high = omega (arith, site-high w (s .args .val) (free e []), s .pre .memory);
       hand = hand;
       room = ready-hand (s .args .t) _ _ (s .good .0) (s .args .s) _ (s .pre) hand .room;
+      held = s .pre .held;
       few = ready-few (s .args .t) _ _ (s .good .0) (s .args .s) _ (s .pre);
     }
 
