@@ -5,7 +5,7 @@ use mathlib.Core.List.{List}
 use Prim.Native.Nat.{ℕ, _+_, _-_, _*_, _/_, _%_, _<_, _≤_}
 use native.Mathlib.Nat.{add-zero}
 use native.Mathlib.Omega.{arith}
-use borrow.Author.Tests.{not-true, not-false, eq-eqb, ne-eqb, eqb-true, le-leb, lt-leb}
+use borrow.Author.Tests.{not-true, not-false, eq-eqb, ne-eqb, eqb-true, le-leb, lt-leb, le-ltb}
 use lib.Dec.{eqb, leb}
 use lib.ListN.{length, getD, set, take, drop, replicate}
 use lib.Seq.{getD-take, length-take-le}
@@ -14,6 +14,7 @@ use Rattle.common.proofs.Every.{every-at, every-all, every-fails, every-more, e
 use Rattle.common.proofs.Cases.{on-test, on-less, same-eqb}
 use Rattle.common.proofs.Fill.{filled, fill-before, fill-set, fill-keep, fill-whole, fill-none}
 use Rattle.common.proofs.Same.{true-or-false, and-both, parts}
+use Rattle.common.proofs.Tab.{length-tab, tab-at}
 use Rattle.target.specs.declared.Element.{Element}
 use Rattle.target.specs.declared.Entry.{Entry as Stored}
 use Rattle.target.specs.Free.{isFree}
@@ -129,6 +130,15 @@ module _ (base : ℕ) (mem : List ℕ) (e f : Entry) (q : isFree f ≡ false) wh
       on-test (isFree e) (λ r. apart-free r even small s)
       (λ r. apart-used r (entry-site base mem e r fit .1) (s .1))
 
+-- ---- a list of m places, of which a loop has filled n
+
+module _ {A : Type 0} (f g : ℕ → A) (n m : ℕ) {l : List A} (e : l ≡ filled f g n m) where
+  fill-size : length l ≡ m
+  fill-size = rw e (length-tab m _)
+
+  fill-after : (d : A) (k : ℕ) → n ≤ k → k < m → getD l k d ≡ g k
+  fill-after d k h b = rw e (tab-at m _ d k b ∙ rw (le-ltb k n h))
+
 -- ---- the walk over the table
 
 abbrev tableTest : ℕ → List ℕ → List Stored → List Element → Bool
@@ -201,7 +211,17 @@ module _ {base : ℕ} {mem : List ℕ} {es : List Stored} {pool : List Element} 
         p .its-plain ∙ fill-whole _ _ _ _ (omega arith) ∙ sym (plains-tab seen z two),
       )
 
+  -- the arrays have a slot for each entry
+  pub slots : (length ids ≡ 8) × (length sites ≡ 8)
+  slots = (fill-size _ _ i 8 (p .its-ids), fill-size _ _ i 8 (p .its-sites))
+
   module _ (h : i < 8) where
+    -- and the slot of the next is free
+    pub slot-free : (getD ids i 0 ≡ 256) × (getD sites i 0 ≡ 1)
+    slot-free =
+        let k : i ≤ i = omega arith in
+        (fill-after _ _ i 8 (p .its-ids) 0 i k h, fill-after _ _ i 8 (p .its-sites) 0 i k h)
+
     abbrev e : Stored
     e = getD es i pastEntries
 
@@ -301,6 +321,9 @@ module _ {base : ℕ} {mem : List ℕ} {es : List Stored} {pool : List Element} 
 
         pub site-over : base ≤ e .site
         site-over = its-site .1
+
+        pub site-even : (e .site - base) % 2 ≡ 0
+        site-even = omega (arith, p .even, its-site)
 
         pub held-over : held + e .count ≤ 128
         held-over = its-fit .1

@@ -9,7 +9,7 @@ use target::Target;
 use target_fit::Scan;
 ghost use mathlib.Core.Path.{_≡_};
 ghost use mathlib.Core.Bool.{not, _&&_};
-ghost use Prim.Native.Nat.{_%_, _≤_};
+ghost use Prim.Native.Nat.{ℕ, _%_, _<_, _≤_};
 ghost use lib.Dec.{eqb, ltb};
 ghost use lib.ListN.{getD};
 ghost use Rattle.common.specs.Every.{every};
@@ -59,6 +59,31 @@ fn clear_of(
     true
 }
 
+// The same, where it is 1 in `known` if a slot has the id, and in `taken` if one has the site. Both are mostly 0, and
+// then no slot is looked at.
+fn apart(
+    known: u8,
+    taken: u8,
+    ids: &[u32; Table::ENTRIES],
+    sites: &[u32; Table::ENTRIES],
+    n: usize,
+    id: u32,
+    site: u32,
+) -> bool
+    requires { ⌜ (n ≤ maxEntries)
+        × ((j : ℕ) → j < n → getD (now ids) j 0 ≡ id → known ≡ 1)
+        × ((j : ℕ) → j < n → getD (now sites) j 0 ≡ site → taken ≡ 1) ⌝ }
+    ensures { λ r. ⌜ r ≡ every n
+        (λ j. not (eqb (getD (now (ids .entry)) j 0) id) && not (eqb (getD (now (sites .entry)) j 0) site)) ⌝ }
+{
+    if known == 0 {
+        if taken == 0 {
+            return true;
+        }
+    }
+    clear_of(ids, sites, n, id, site)
+}
+
 // What is left to test of an entry that is not free, whose elements start at a place.
 fn used_fit(mem: &[u8], base: u32, places: &[u32; Table::WORDS], e: Entry, from: usize) -> bool
     requires { ⌜ from ≤ maxPlaces ⌝ }
@@ -102,6 +127,9 @@ fn scan_table(mem: &[u8], base: u32, t: Table, places: &[u32; Table::WORDS]) -> 
     let mut ids: [u32; Table::ENTRIES] = [Scan::FREE_ID; Table::ENTRIES];
     let mut sites: [u32; Table::ENTRIES] = [Scan::FREE_SITE; Table::ENTRIES];
     let mut plain: [u8; Table::PLAIN] = [0; Table::PLAIN];
+    // 1 where an id (places 0 to 31) or an offset (32 to 63) of an entry passed falls. Equal ones fall on one place, so
+    // where both places of an entry are 0 it need not be compared with those before it.
+    let mut noted: [u8; 64] = [0; 64];
     let mut held: usize = 0;
     let mut i: usize = 0;
     while i < Table::ENTRIES {
@@ -114,9 +142,13 @@ fn scan_table(mem: &[u8], base: u32, t: Table, places: &[u32; Table::WORDS]) -> 
             }
             let id = e.id as u32;
             let at = e.site - base;
-            if !clear_of(&ids, &sites, i, id, at) {
+            let id_place = (id % 32) as usize;
+            let site_place = (at / 2 % 32 + 32) as usize;
+            if !apart(noted[id_place], noted[site_place], &ids, &sites, i, id, at) {
                 return unfit();
             }
+            noted[id_place] = 1;
+            noted[site_place] = 1;
             ids[i] = id;
             sites[i] = at;
             held += e.count as usize;

@@ -1,4 +1,4 @@
--- `condition::depth_after` meets its contract: each test of the chain, and each arm of the `match`, gives the value that
+-- `condition::depth_after` meets its contract: each test of the chain, and each arm of the `match`, has the value that
 -- the definition gives its letters.
 -- Assumes nothing.
 use mathlib.Core.Path.{refl}
@@ -27,16 +27,14 @@ returns-3 c = (after-push _ _ _ _ (c .before .before .if1 .left) (inl (c .if3 .t
 returns-4 : tie.Need-returns-4
 returns-4 c =
     let k = c .before in
-    let p = k .before in
-    (
+    let p = k .before in (
       after-value _ _ _ _ (p .before .if1 .left) (⊎-elim (k .if3 .left) (p .if2 .left)) (c .if4 .taken) refl,
       omega arith,
     )
 
 returns-5 : tie.Need-returns-5
 returns-5 c =
-    let v = c .before in
-    (
+    let v = c .before in (
       after-load _ _ _ _ (v .before .before .before .if1 .left) (c .if5 .taken) (rw (v .if4 .left)),
       omega arith,
     )
@@ -46,8 +44,7 @@ sub-result c = search needs
 
 returns-6 : tie.Need-returns-6
 returns-6 c =
-    let v = c .before .before in
-    (
+    let v = c .before .before in (
       after-join _ _ _ _ (v .before .before .before .if1 .left) (c .match .keys1) (rw (v .if4 .left)),
       omega arith,
     )
@@ -55,8 +52,7 @@ returns-6 c =
 returns-7 : tie.Need-returns-7
 returns-7 c =
     let k = c .before .before .before in
-    let p = k .before in
-    (
+    let p = k .before in (
       after-other _ _ _ _ (p .before .if1 .left) (⊎-elim (k .if3 .left) (p .if2 .left)) (c .before .if5 .left)
           (c .match .rest .1) refl,
       omega arith,

@@ -1,5 +1,5 @@
 -- `target_scan::scan_table` meets its contract. The loop's invariant, `Scanning`: the arrays hold the entries before
--- place i, free slots after them, and each entry before it is fit. Assumes nothing.
+-- place i, free slots after them, and each entry before it is fit; `Noted`: the set notes them. Assumes nothing.
 use Prim.Native.Nat.{_-_}
 use mathlib.Core.Logic.{⊎-elim}
 use native.Mathlib.Omega.{arith}
@@ -15,24 +15,30 @@ use Rattle.target_scan.proofs.Laws.{
   scan-clash,
   scan-used,
   scan-all,
+  slots,
+  slot-free,
   site-over,
+  site-even,
 }
+use Rattle.target_scan.proofs.Noted.{Noted, noted-none, noted-free, noted-used, noted-id, noted-site}
 use Rattle.target_scan.proofs.scan_table.Statement.{statement}
 use Rattle.target_scan.proofs.scan_table.Tie as tie
 
 abbrev Inv-loop : tie.InvT-loop
-Inv-loop mem base places t ids₀ sites₀ plain₀ held₀ i₀ ids sites plain held i =
-    Scanning base mem (t .entries) (elementsOf places) ids sites plain held i
+Inv-loop mem base places t ids₀ sites₀ plain₀ noted₀ held₀ i₀ ids sites plain noted held i =
+    Scanning base mem (t .entries) (elementsOf places) ids sites plain held i × Noted noted ids sites i
 
 abbrev μ-loop : tie.MeasureT-loop
-μ-loop mem base places t ids₀ sites₀ plain₀ held₀ i₀ ids sites plain held i = 8 - i
+μ-loop mem base places t ids₀ sites₀ plain₀ noted₀ held₀ i₀ ids sites plain noted held i = 8 - i
 
 loop-holds : tie.Need-loop-holds Inv-loop μ-loop
 loop-holds c =
     let o = c .before in
     let t = o .args .t3 in
-    let g = o .good .1 .1 .0 in
-    scan-none _ _ _ _ (o .pre) (table-entries t _ g) (λ k h. entry-shape _ _ (table-entry t _ k g h .1))
+    let g = o .good .1 .1 .0 in (
+      scan-none _ _ _ _ (o .pre) (table-entries t _ g) (λ k h. entry-shape _ _ (table-entry t _ k g h .1)),
+      noted-none _ _,
+    )
 
 mul-e : tie.Need-mul-e Inv-loop μ-loop
 mul-e c = search needs
@@ -73,23 +79,48 @@ returns c =
     let b = f .before in
     let o = b .before .before .before .before in
     unfit-entries _ _ _ _ _ (c .unfit .ensures)
-    (scan-unfit (o .before .loop .inv) (o .loop-test .taken) (b .if1 .taken) _ (f .used-fit .ensures)
+    (scan-unfit (o .before .loop .inv .0) (o .loop-test .taken) (b .if1 .taken) _ (f .used-fit .ensures)
     (c .before .if2 .taken))
 
 cast-id : tie.Need-cast-id Inv-loop μ-loop
 cast-id c =
     let o = c .before .before .before .before .before .before in
-    record { fits = omega (arith, o .before .loop .inv .shape _ (o .loop-test .taken) .id) }
+    record { fits = omega (arith, o .before .loop .inv .0 .shape _ (o .loop-test .taken) .id) }
 
 sub-at : tie.Need-sub-at Inv-loop μ-loop
 sub-at c =
     let f = c .before in
     let b = f .before in
     let o = b .before .before .before .before in
-    site-over (o .before .loop .inv) (o .loop-test .taken) (b .if1 .taken) _ (f .used-fit .ensures) (c .if2 .left)
+    site-over (o .before .loop .inv .0) (o .loop-test .taken) (b .if1 .taken) _ (f .used-fit .ensures) (c .if2 .left)
 
-clear-of-requires : tie.Need-clear-of-requires Inv-loop μ-loop
-clear-of-requires c κs = search needs
+cast-id-place : tie.Need-cast-id-place Inv-loop μ-loop
+cast-id-place c = search needs
+
+add-site-place : tie.Need-add-site-place Inv-loop μ-loop
+add-site-place c = search needs
+
+cast-site-place : tie.Need-cast-site-place Inv-loop μ-loop
+cast-site-place c = search needs
+
+array-read-apart : tie.Need-array-read-apart Inv-loop μ-loop
+array-read-apart c = search needs
+
+array-read-apart-2 : tie.Need-array-read-apart-2 Inv-loop μ-loop
+array-read-apart-2 c = search needs
+
+apart-requires : tie.Need-apart-requires Inv-loop μ-loop
+apart-requires c κs =
+    let d = c .before .before in
+    let f = d .before in
+    let b = f .before in
+    let o = b .before .before .before .before in
+    let inv = o .before .loop .inv in
+    let h = o .loop-test .taken in (
+      omega arith,
+      noted-id (inv .1) _ (inv .0 .shape _ h .id),
+      noted-site (inv .1) _ (site-even (inv .0) h (b .if1 .taken) _ (f .used-fit .ensures) (d .if2 .left)),
+    )
 
 unfit-requires-2 : tie.Need-unfit-requires-2 Inv-loop μ-loop
 unfit-requires-2 c κs = search needs
@@ -102,8 +133,14 @@ returns-2 c =
     let b = f .before in
     let o = b .before .before .before .before in
     unfit-entries _ _ _ _ _ (c .unfit2 .ensures)
-    (scan-clash (o .before .loop .inv) (o .loop-test .taken) (b .if1 .taken) _ (f .used-fit .ensures) (d .if2 .left) _
-    (g .clear-of .ensures) (c .before .if3 .taken))
+    (scan-clash (o .before .loop .inv .0) (o .loop-test .taken) (b .if1 .taken) _ (f .used-fit .ensures)
+    (d .if2 .left) _ (g .apart .ensures) (c .before .if3 .taken))
+
+array-write-noted : tie.Need-array-write-noted Inv-loop μ-loop
+array-write-noted c = search needs
+
+array-write-noted-2 : tie.Need-array-write-noted-2 Inv-loop μ-loop
+array-write-noted-2 c = search needs
 
 mul-ids : tie.Need-mul-ids Inv-loop μ-loop
 mul-ids c = search needs
@@ -124,12 +161,12 @@ counted c = c .before .before .before .before .before .before .before .before .b
 cast-held : tie.Need-cast-held Inv-loop μ-loop
 cast-held c =
     let o = counted c in
-    record { fits = omega (arith, o .before .loop .inv .shape _ (o .loop-test .taken) .count) }
+    record { fits = omega (arith, o .before .loop .inv .0 .shape _ (o .loop-test .taken) .count) }
 
 add-held : tie.Need-add-held Inv-loop μ-loop
 add-held c =
     let o = counted c in
-    omega (arith, o .before .loop .inv .room, o .before .loop .inv .shape _ (o .loop-test .taken) .count)
+    omega (arith, o .before .loop .inv .0 .room, o .before .loop .inv .0 .shape _ (o .loop-test .taken) .count)
 
 add-i : tie.Need-add-i Inv-loop μ-loop
 add-i c = search needs
@@ -142,15 +179,20 @@ loop-again c =
     let o = c .before .before .before .before in
     let inv = o .before .loop .inv in
     let h = o .loop-test .taken in
+    let z = slots (inv .0) in
     ⊎-elim
     (λ w.
-    rw (w .7, w .8, w .9)
-    (scan-used inv h (w .0 .taken) _ (w .1 .ensures) (w .2 .left) _ (w .5 .ensures) (w .6 .left)))
-    (λ w. rw (w .1, w .2, w .3) (scan-free inv h (w .0 .left)))
+    rw (w .7, w .8, w .9, w .10) (
+      scan-used (inv .0) h (w .0 .taken) _ (w .1 .ensures) (w .2 .left) _ (w .5 .ensures) (w .6 .left),
+      noted-used (inv .1) _ _ (omega (arith, z .0)) (omega (arith, z .1)),
+    ))
+    (λ w.
+    rw (w .1, w .2, w .3, w .4)
+    (scan-free (inv .0) h (w .0 .left), noted-free (inv .1) (slot-free (inv .0) h .0) (slot-free (inv .0) h .1)))
     (c .if1 .came)
 
 returns-3 : tie.Need-returns-3 Inv-loop μ-loop
-returns-3 c = scan-all (c .before .loop .inv) (c .loop-test .left)
+returns-3 c = scan-all (c .before .loop .inv .0) (c .loop-test .left)
 
 pub scan-table-spec : {M : Type 1} → statement M
 scan-table-spec =
@@ -173,9 +215,16 @@ scan-table-spec =
     returns
     cast-id
     sub-at
-    clear-of-requires
+    cast-id-place
+    add-site-place
+    cast-site-place
+    array-read-apart
+    array-read-apart-2
+    apart-requires
     unfit-requires-2
     returns-2
+    array-write-noted
+    array-write-noted-2
     mul-ids
     array-write-ids
     mul-sites
