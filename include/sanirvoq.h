@@ -155,14 +155,14 @@ static inline uint8_t sanirvoq_second(uint32_t result) { return (uint8_t)(result
 /* ---- the steps, as they are proved: all but the setup of one form ----
  *
  * Each takes the two parts of a record, its target and its places, the memory window, the register area (136 bytes for
- * each process), a pid, a byte, an input and a reply buffer, and says below which of the last four it uses. What it does
- * not use it leaves as it is. */
+ * each process), a pid, a byte, an input and a reply buffer, and says below which of the last four it uses. What it
+ * does not use it leaves as it is. */
 typedef uint32_t sanirvoq_step(struct sanirvoq_target *target, uint32_t *places, uint8_t *memory, size_t memory_length,
                                uint8_t *registers, size_t registers_length, uint32_t pid, uint8_t value,
                                const uint8_t *input, size_t input_length, uint8_t *reply, size_t reply_length);
 
-/* Takes base, size, count and the pids and addresses of the first count processes from the target, and makes the rest of
- * that. It has no places: none is held then. It uses none of the last four. */
+/* Takes base, size, count and the pids and addresses of the first count processes from the target, and makes the rest
+ * of that. It has no places: none is held then. It uses none of the last four. */
 uint32_t sanirvoq_step_setup(struct sanirvoq_target *target, uint8_t *memory, size_t memory_length, uint8_t *registers,
                              size_t registers_length, uint32_t pid, uint8_t value, const uint8_t *input,
                              size_t input_length, uint8_t *reply, size_t reply_length);

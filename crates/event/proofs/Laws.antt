@@ -115,14 +115,16 @@ module _ (t : StoredTarget) (words mem : List ℕ) (g : Good house (viewOf t wor
   -- which are places of the pool, and 64 at most
   pub places-found : (startAt (t .table .entries) k + entry .count ≤ 128) × (entry .count ≤ 64)
   places-found =
-      let n : entryAt (viewOf t words .table .entries) k .count ≡ entry .count = ap (λ (e : Entry). e .count) seen in
-      (omega (
-        arith,
-        counted,
-        end-held (t .table .entries) k (draftSize (t .table .draft)) within,
-        table-held (t .table) (elementsOf words),
-        facts-of (viewOf t words) mem g .held,
-      ), omega (arith, n, facts .whole, formed-few _ (facts .formed)))
+      let n : entryAt (viewOf t words .table .entries) k .count ≡ entry .count = ap (λ (e : Entry). e .count) seen in (
+        omega (
+          arith,
+          counted,
+          end-held (t .table .entries) k (draftSize (t .table .draft)) within,
+          table-held (t .table) (elementsOf words),
+          facts-of (viewOf t words) mem g .held,
+        ),
+        omega (arith, n, facts .whole, formed-few _ (facts .formed)),
+      )
 
 -- ---- an event, by whether its pid is listed
 

@@ -1,5 +1,5 @@
--- What each change of the pool does to the record as the rules see it, for any table and any pool: one condition changes
--- at most, and every other keeps its elements. Assumes nothing.
+-- What each change of the pool does to the record as the rules see it, for any table and any pool: one condition
+-- changes at most, and every other keeps its elements. Assumes nothing.
 use mathlib.Core.Path.{_≡_, refl, sym, ap, _∙_}
 use mathlib.Core.List.{List, [], _∷_, _++_}
 use Prim.Native.Nat.{ℕ, zero, suc, _+_, _<_, _≤_}

@@ -58,8 +58,8 @@ pub fn join(places: &mut [u32; Table::WORDS], at: usize, e: Element)
     words[2 * at + 1] = e.value;
 }
 
-// The elements from the place `mid` to `end` come before those from `from` to `mid`: so those in hand become an entry's,
-// and those of an entry go after all others.
+// The elements from the place `mid` to `end` come before those from `from` to `mid`: so those in hand become an
+// entry's, and those of an entry go after all others.
 pub fn turn(places: &mut [u32; Table::WORDS], from: usize, mid: usize, end: usize)
     requires { ⌜ (from ≤ mid) × (mid ≤ end) × (end ≤ maxPlaces) ⌝ }
     ensures { λ _. ⌜ elementsOf (now (places .exit)) ≡ turned from mid end (elementsOf (now (places .entry))) ⌝ }

@@ -31,7 +31,8 @@ module _ {A : Type 0} where
 
   module _ (ns : List ℕ) (l : List A) (c : ℕ) (v : A) where
     pub part-set : (k : ℕ) → partAt ns (set l (total ns + c) v) k ≡ partAt ns l k
-    part-set k = part-of ns ns (set l (total ns + c) v) l k (rows-same ns _ l (take-set-le (total ns) l (total ns + c) v (omega arith)))
+    part-set k = part-of ns ns (set l (total ns + c) v) l k
+        (rows-same ns _ l (take-set-le (total ns) l (total ns + c) v (omega arith)))
 
     pub after-set : total ns + c < length l → afterAll ns (c + 1) (set l (total ns + c) v) ≡ afterAll ns c l ++ (v ∷ [])
     unfolding afterAll
@@ -41,7 +42,8 @@ module _ {A : Type 0} where
 
   -- ---- the elements after all parts put in as part k
 
-  module _ (ns : List ℕ) (l : List A) (c k : ℕ) (b : k < length ns) (z : getD ns k 0 ≡ 0) (h : total ns + c ≤ length l) where
+  module _ (ns : List ℕ) (l : List A) (c k : ℕ) (b : k < length ns) (z : getD ns k 0 ≡ 0)
+      (h : total ns + c ≤ length l) where
     abbrev put : List A
     put = turned (startOf ns k) (total ns) (total ns + c) l
 

@@ -4,7 +4,8 @@ use mathlib.Core.List.{List, _++_, append-assoc}
 use Prim.Native.Nat.{ℕ, _+_, _<_, _≤_}
 use native.Mathlib.Omega.{arith}
 use lib.ListN.{length, set, take, drop, length-take, length-drop, length-append, take-append-drop}
-use lib.Seq.{take-at, drop-at, drop-drop, take-append-le, drop-append-le, take-set-le, take-set-lt, drop-set-lt, drop-set-add}
+use lib.Seq.{take-at, drop-at, drop-drop, take-append-le}
+use lib.Seq.{drop-append-le, take-set-le, take-set-lt, drop-set-lt, drop-set-add}
 use Rattle.pool_turn.specs.Turned.{turned}
 use Rattle.pool_rows.specs.Region.{regionOf}
 use Rattle.pool_rows.proofs.Turned.{take-turned, drop-turned}

@@ -1,4 +1,5 @@
--- Laws of consecutive parts: what they depend on, an element after them, a part put in, a part taken out. Assumes nothing.
+-- Laws of consecutive parts: what they depend on, an element after them, a part put in, a part taken out. Assumes
+-- nothing.
 use mathlib.Core.Path.{_≡_, refl, sym, ap, _∙_}
 use mathlib.Core.List.{List, [], _∷_, _++_}
 use Prim.Native.Nat.{ℕ, zero, suc, _+_, _<_, _≤_}
@@ -50,7 +51,8 @@ module _ {A : Type 0} where
       let t = total ns in
       let d = take c (drop t l) in
       let z : length d ≡ c = simp (length-take, length-drop) (omega arith) in
-      let q : take t (take t l ++ drop (t + c) l) ≡ take t l = take-at (take t l) (drop (t + c) l) t (simp length-take (omega arith)) in
+      let q : take t (take t l ++ drop (t + c) l) ≡ take t l =
+      take-at (take t l) (drop (t + c) l) t (simp length-take (omega arith)) in
       rw (
         drop-take t c l,
         take-at d (take t l ++ drop (t + c) l) c z,
@@ -59,7 +61,8 @@ module _ {A : Type 0} where
       )
 
   pub rows-put : (ns : List ℕ) (l : List A) (c k : ℕ) → k < length ns → getD ns k 0 ≡ 0 → total ns + c ≤ length l
-      → rowsOf (set ns k c) (turned (startOf ns k) (total ns) (total ns + c) l) ≡ set (rowsOf ns l) k (take c (drop (total ns) l))
+      → rowsOf (set ns k c) (turned (startOf ns k) (total ns) (total ns + c) l)
+      ≡ set (rowsOf ns l) k (take c (drop (total ns) l))
   unfolding rowsOf startOf total
   rows-put [] l c k b z h = absurd (not-suc-le-zero b)
   rows-put (n ∷ ns) l c zero b z h = rw (z, zero-add) (put-first ns l c (omega arith))
@@ -102,7 +105,8 @@ module _ {A : Type 0} where
     abbrev cut : List A
     cut = turned (startOf ns k) (startOf ns k + getD ns k 0) (total ns + c) l
 
-    both : rowsOf (set ns k 0) cut ++ (afterAll (set ns k 0) c cut ∷ []) ≡ set (rowsOf ns l) k [] ++ (afterAll ns c l ∷ [])
+    both : rowsOf (set ns k 0) cut ++ (afterAll (set ns k 0) c cut ∷ [])
+        ≡ set (rowsOf ns l) k [] ++ (afterAll ns c l ∷ [])
     both =
         let t : total (ns ++ (c ∷ [])) ≡ total ns + c = total-more ns c in
         rw (

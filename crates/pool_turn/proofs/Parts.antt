@@ -1,6 +1,7 @@
 -- Laws of a stretch that is reversed or turned, by the parts of the list. Assumes nothing.
 use mathlib.Core.Path.{_≡_, refl, sym, ap, _∙_}
-use mathlib.Core.List.{List, [], _∷_, _++_, reverse, reverseAux-append, reverseAux-eq, reverse-append, reverse-reverse, append-assoc}
+use mathlib.Core.List.{List, [], _∷_, _++_, reverse}
+use mathlib.Core.List.{reverseAux-append, reverseAux-eq, reverse-append, reverse-reverse, append-assoc}
 use Prim.Native.Nat.{ℕ, suc, _+_, _<_, _≤_}
 use native.Mathlib.Omega.{arith}
 use lib.ListN.{length, getD, set, take, drop, length-append, length-take, length-reverse, take-append-drop}
@@ -66,7 +67,8 @@ module _ {A : Type 0} where
       rw (reverse-short (slice f e l) (rw (length-slice f e l g) (omega arith))) (sym (three l f e h))
 
   -- the two ends change places
-  module _ (a : List A) (x : A) (m : List A) (y : A) (z : List A) (i j : ℕ) (h : length a ≡ i) (k : i + 1 + length m ≡ j) where
+  module _ (a : List A) (x : A) (m : List A) (y : A) (z : List A) (i j : ℕ) (h : length a ≡ i)
+      (k : i + 1 + length m ≡ j) where
     first-at : (d : A) → getD (a ++ x ∷ (m ++ y ∷ z)) i d ≡ x
     first-at d = getD-at a x (m ++ y ∷ z) d i h
 

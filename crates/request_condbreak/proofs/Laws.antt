@@ -86,7 +86,8 @@ module _ (t : StoredTarget) (words : List ℕ) (vs : List Val) (h : Is target.th
   ready-few = facts-of (viewOf t words) mem (ready-good t words vs h s mem r) .held
 
   -- what is in hand, as facts
-  pub ready-hand : (t .table .draft .active ≡ 0 → ⊥) → Hand (viewOf t words .table .draft) (viewOf t words .table .entries)
+  pub ready-hand : (t .table .draft .active ≡ 0 → ⊥)
+      → Hand (viewOf t words .table .draft) (viewOf t words .table .entries)
   ready-hand n =
       hand-of (viewOf t words .table .draft) (viewOf t words .table .entries)
       (facts-of (viewOf t words) mem (ready-good t words vs h s mem r) .draft) (ne-eqb (t .table .draft .active) 0 n)

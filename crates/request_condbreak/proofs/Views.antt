@@ -1,4 +1,5 @@
--- The record as the rules see it after each change that Tcondbreak makes of the record and of the pool. Assumes nothing.
+-- The record as the rules see it after each change that Tcondbreak makes of the record and of the pool. Assumes
+-- nothing.
 use mathlib.Core.Path.{_≡_, refl, ap, _∙_}
 use mathlib.Core.Bool.{true, false}
 use mathlib.Core.List.{List, [], _∷_, _++_}
@@ -69,7 +70,8 @@ module _ (t : Target) (plain words : List ℕ) where
     pub view-more : (e : Element) (after : List ℕ)
         → elementsOf after ≡ joined (t .table .entries) (t .table .draft .count) e (elementsOf words)
         → heldBy (t .table .entries) (t .table .draft .count) < length (elementsOf words)
-        → viewOf (stored t (Hand (t .table .draft .active) (t .table .draft .id) (t .table .draft .count + 1)) plain) after
+        → viewOf (stored t (Hand (t .table .draft .active) (t .table .draft .id) (t .table .draft .count + 1)) plain)
+        after
         ≡ withDraft (viewOf t words) (withElement (viewOf t words .table .draft) e)
     unfolding stored withDraft withTable withElement draftSize
     view-more e after h few =

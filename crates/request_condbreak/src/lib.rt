@@ -84,7 +84,11 @@ fn add(t: Target, s: Scan, places: &mut [u32; Table::WORDS], letter: u8, value: 
     let room = condition::room_for(s.depth, d.count as usize, s.held, code, value);
     match room {
         Room::Fits => {
-            pool::join(places, s.held, Element { letter: code, value });
+            let e = Element {
+                letter: code,
+                value,
+            };
+            pool::join(places, s.held, e);
             done(Change::Hand(d.active, d.id, d.count + 1))
         }
         Room::Full => fail(Reason::Count),
@@ -110,7 +114,12 @@ fn plant(t: Target, s: Scan, places: &mut [u32; Table::WORDS], mem: &mut [u8], s
     let table = t.table;
     let entries = table.entries;
     let d = table.draft;
-    pool::turn(places, pool::start_of(entries, k), s.held - d.count as usize, s.held);
+    pool::turn(
+        places,
+        pool::start_of(entries, k),
+        s.held - d.count as usize,
+        s.held,
+    );
     done(Change::Plant(k, site, b0, b1))
 }
 

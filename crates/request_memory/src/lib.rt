@@ -175,7 +175,11 @@ pub fn mput(
     let place = memory_place::place_of(t.base, t.size, addr, n);
     match place {
         Place::Registers => {
-            Effect::answering(Answer::Nothing, Change::Same, put_registers(t, regs, addr, &bytes[..count]))
+            Effect::answering(
+                Answer::Nothing,
+                Change::Same,
+                put_registers(t, regs, addr, &bytes[..count]),
+            )
         }
         Place::Window => {
             let sites = s.sites;

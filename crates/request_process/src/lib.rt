@@ -79,7 +79,11 @@ pub fn rnote(t: Target, pid: u32) -> Effect
     let Lookup::At(_, _) = found else {
         return no_process();
     };
-    Effect::answering(Answer::Nothing, Change::Same, wire::bytes_of(Message::Rrnote))
+    Effect::answering(
+        Answer::Nothing,
+        Change::Same,
+        wire::bytes_of(Message::Rrnote),
+    )
 }
 
 // Tstop: marks a process that is not Stopped.

@@ -85,5 +85,9 @@ pub fn refuse(s: &[u8], reason: Reason) -> Effect
     if drops_draft(s) {
         return request_condbreak::fail(reason);
     }
-    Effect::answering(Answer::Nothing, Change::Same, wire::bytes_of(Message::Rerr { reason }))
+    Effect::answering(
+        Answer::Nothing,
+        Change::Same,
+        wire::bytes_of(Message::Rerr { reason }),
+    )
 }

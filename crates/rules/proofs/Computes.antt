@@ -66,7 +66,8 @@ unfolding shownBy after shown shownWith answerBytes
     fitOf windowFit processesFit pidFit entriesFit slotFit entryFit siteFit apart marksFit markFit currentFit processOf
     draftFit draftTest
     entryOf idOf siteOf idsOf sitesOf plainsOf isFree firstFree
-    roomBy roomFor withElement heldOf entriesHeld placesOf draftHeld total depthAfter depthFrom depthOf wellBegun wellFormed
+    roomBy roomFor withElement heldOf entriesHeld placesOf draftHeld total depthAfter depthFrom depthOf wellBegun
+    wellFormed
     joinOf isOutside wordOf escapes stackAfter evalFrom evaluateOf fetchOf
     placeOf isSite bytesAt plainRead writtenAt overwritten memAfter offsetOf plainAfter
     siteOver slotOf covered plainAt plainOf laidAt laidOver

@@ -50,9 +50,11 @@ pub record Counts (u : Table) (y : Count) : Type 0 where
   pub held : y .held ≡ heldOf u
   pub hand : y .hand ≡ draftHeld (u .draft)
   pub id : eqb (u .draft .active) 0 ≡ false → y .id ≡ u .draft .id
-  pub sets : (k : ℕ) → UsedIn (u .entries) k → setBy (y .sets) (entryAt (u .entries) k .id) ≡ entryAt (u .entries) k .count
+  pub sets : (k : ℕ) → UsedIn (u .entries) k → setBy (y .sets) (entryAt (u .entries) k .id)
+      ≡ entryAt (u .entries) k .count
 
-module _ {head : Head} (t : Target) (mem regs : List ℕ) (g : Good head t mem) (y : Count) (c : Counts (t .table) y) where
+module _ {head : Head} (t : Target) (mem regs : List ℕ) (g : Good head t mem) (y : Count)
+    (c : Counts (t .table) y) where
   abbrev w : World
   w = world t mem regs
 
@@ -220,7 +222,8 @@ uncounted y (stateEvent r pid value) n reply h = refl
 uncounted y (restartStep r buffer) n reply h = rw h
 
 -- an event leaves the table
-counts-heard : {head : Head} (t : Target) (mem regs : List ℕ) (y : Count) → Counts (t .table) y → {e : Step} {x : Answer}
+counts-heard : {head : Head} (t : Target) (mem regs : List ℕ) (y : Count) → Counts (t .table) y
+    → {e : Step} {x : Answer}
     {v : World} → EventCase head (world t mem regs) e x v → Counts (v .target .table) (counted y e 0 [])
 unfolding counted stopWith setState withProcesses
 counts-heard t mem regs y c (caught h k e) = c

@@ -1,4 +1,5 @@
--- A stub that never gives a place back, and one that counts a refused element, hold other places than the history counts.
+-- A stub that never gives a place back, and one that counts a refused element, hold other places than the history
+-- counts.
 use mathlib.Core.Path.{_≡_}
 use mathlib.Core.List.{List, [], _∷_}
 use Prim.Native.Nat.{ℕ}

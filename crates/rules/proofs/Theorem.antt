@@ -180,7 +180,8 @@ counts-taken (emptied n h) = counts-fresh
 
 counts-setup : (s : Setup) → Counts (setupBy s .after .target .table) noneHeld
 unfolding setupBy
-counts-setup s = counts-taken {s = s} (set-up (s .base) (s .size) (s .pids) (s .addresses) (s .count) (s .mem) (s .regs))
+counts-setup s = counts-taken {s = s}
+    (set-up (s .base) (s .size) (s .pids) (s .addresses) (s .count) (s .mem) (s .regs))
 
 pub places : (head : Head) → PlacesHeld (stubOf (stepOf head)) ruledPlaces
 places head s h es =

@@ -1,6 +1,6 @@
--- 02, Seven: "Over demand 3's lists, places held always equal the elements sent and accepted, less those removed, dropped
--- or replaced, counted from the history". It is a claim of the form of demand 3's (Claim.antt), beside it: the count has
--- to see refused Tcondbreaks, which drop, and the book does not.
+-- 02, Seven: "Over demand 3's lists, places held always equal the elements sent and accepted, less those removed,
+-- dropped or replaced, counted from the history". It is a claim of the form of demand 3's (Claim.antt), beside it: the
+-- count has to see refused Tcondbreaks, which drop, and the book does not.
 use mathlib.Core.Path.{_≡_}
 use mathlib.Core.Bool.{Bool, true, false, cond}
 use mathlib.Core.List.{List, [], _∷_}
@@ -82,8 +82,8 @@ countRequest y (Request m) = countServed y m
 countRequest y (Refused r) = y
 countRequest y NotTen = y
 
--- the count after a step, from its bytes, its number and its reply: "Every Tcondbreak that gets Rerr and whose op is not
--- d and three zeros drops the condition in hand"; a restart gives all places back
+-- the count after a step, from its bytes, its number and its reply: "Every Tcondbreak that gets Rerr and whose op is
+-- not d and three zeros drops the condition in hand"; a restart gives all places back
 unfoldable pub counted : Count → Step → ℕ → List ℕ → Count
 counted y (request regs bytes buffer) number reply =
     cond (isAccepted number reply) (countRequest y (parseOf bytes))
@@ -100,7 +100,8 @@ unfoldable pub HoldsCount : Setup → (f : Stub) → (f .Own → ℕ) → Book �
 HoldsCount s f places b y x mem [] = places x ≡ y .held
 HoldsCount s f places b y x mem (step e ∷ es) =
     let (x′, o) = f .act x mem e in
-    HoldsCount s f places (fed s b e (o .number) (o .answer) (o .reply)) (counted y e (o .number) (o .reply)) x′ (o .mem)
+    HoldsCount s f places (fed s b e (o .number) (o .answer) (o .reply)) (counted y e (o .number) (o .reply)) x′
+    (o .mem)
     es
 HoldsCount s f places b y x mem (change i byte ∷ es) =
     underTrap s b i ≡ false → HoldsCount s f places (withPlain b (set (b .plain) i byte)) y x (set mem i byte) es

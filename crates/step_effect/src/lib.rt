@@ -1,5 +1,5 @@
-// What a step gives: its number, its answer, its reply, and what it changes in the record. This one struct goes from the
-// rule to the function that stores it.
+// What a step gives: its number, its answer, its reply, and what it changes in the record. This one struct goes from
+// the rule to the function that stores it.
 use rules::Answer;
 use target::Table;
 use target::Target;

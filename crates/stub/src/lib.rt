@@ -1,5 +1,5 @@
-// The steps of the debug stub over a record by value, with its pool and buffers of any size lent. Each refuses bad input
-// itself, and gives back the record afterwards.
+// The steps of the debug stub over a record by value, with its pool and buffers of any size lent. Each refuses bad
+// input itself, and gives back the record afterwards.
 use step::StepKind;
 use step_effect::Done;
 pub use step_setup::setup;

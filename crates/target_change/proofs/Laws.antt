@@ -26,7 +26,8 @@ use Rattle.target.specs.declared.Target.{Target}
 
 -- ---- parts that a change leaves as they were; a tag is the variant's place
 
-pub keeps-processes : (t : Target) (c : Change) (plain : List ℕ) → among (0 ∷ 1 ∷ 2 ∷ 4 ∷ 5 ∷ 6 ∷ []) (tagOf the-type c) ≡ true
+pub keeps-processes : (t : Target) (c : Change) (plain : List ℕ)
+    → among (0 ∷ 1 ∷ 2 ∷ 4 ∷ 5 ∷ 6 ∷ []) (tagOf the-type c) ≡ true
     → stored t c plain .processes ≡ t .processes
 unfolding among stored
 keeps-processes t Same plain e = refl
@@ -38,7 +39,8 @@ keeps-processes t (Plant k site b0 b1) plain e = refl
 keeps-processes t (Remove k) plain e = refl
 keeps-processes t Restart plain e = true-or-false e
 
-pub keeps-selected : (t : Target) (c : Change) (plain : List ℕ) → among (0 ∷ 1 ∷ 3 ∷ 4 ∷ 5 ∷ 6 ∷ []) (tagOf the-type c) ≡ true
+pub keeps-selected : (t : Target) (c : Change) (plain : List ℕ) → among (0 ∷ 1 ∷ 3 ∷ 4 ∷ 5 ∷ 6 ∷ []) (tagOf the-type c)
+    ≡ true
     → stored t c plain .selected ≡ t .selected
 unfolding among stored
 keeps-selected t Same plain e = refl
@@ -50,7 +52,8 @@ keeps-selected t (Plant k site b0 b1) plain e = refl
 keeps-selected t (Remove k) plain e = refl
 keeps-selected t Restart plain e = true-or-false e
 
-pub keeps-current : (t : Target) (c : Change) (plain : List ℕ) → among (0 ∷ 1 ∷ 3 ∷ 4 ∷ 5 ∷ 6 ∷ []) (tagOf the-type c) ≡ true
+pub keeps-current : (t : Target) (c : Change) (plain : List ℕ) → among (0 ∷ 1 ∷ 3 ∷ 4 ∷ 5 ∷ 6 ∷ []) (tagOf the-type c)
+    ≡ true
     → stored t c plain .current ≡ t .current
 unfolding among stored
 keeps-current t Same plain e = refl

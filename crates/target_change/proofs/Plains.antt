@@ -85,7 +85,15 @@ module _ (es us : List Entry) (bytes : List ℕ) (k : ℕ) (z : length us ≡ le
           → take (k + 1) vs ≡ take (k + 1) (storePlains es bytes)
       plains-more t =
           let j : k < length (storePlains es bytes) = omega (arith, length-stored es bytes) in
-          rw (w, add-one k, take-suc-set us k _ (omega arith), new, t, ← take-suc (storePlains es bytes) k pastEntries j)
+          rw (
+            w,
+            add-one k,
+            take-suc-set us k _ (omega arith),
+            new,
+            t,
+            ← take-suc
+                (storePlains es bytes) k pastEntries j,
+          )
         where
           new : withPair (getD us k pastEntries) (getD bytes (2 * k) 0) (getD bytes (2 * k + 1) 0)
               ≡ getD (storePlains es bytes) k pastEntries

@@ -1,5 +1,5 @@
-// The record after a step, part by part, so that a caller who has it in its own memory writes just the parts that change;
-// and of a whole record.
+// The record after a step, part by part, so that a caller who has it in its own memory writes just the parts that
+// change; and of a whole record.
 use step_effect::Change;
 use step_effect::Effect;
 use target::Draft;
@@ -157,11 +157,7 @@ pub fn draft_after(d: Draft, e: Effect) -> Draft
 {
     let c = e.change;
     match c {
-        Change::Hand(active, id, count) => Draft {
-            active,
-            id,
-            count,
-        },
+        Change::Hand(active, id, count) => Draft { active, id, count },
         Change::Plant(_, _, _, _) => Draft::closed(),
         Change::Restart => Draft::closed(),
         _ => d,

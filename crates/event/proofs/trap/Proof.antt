@@ -69,7 +69,7 @@ unfolding trap
 returns c =
     let e = c .before in (
       refuses _ _ _ _ _ _ _ _ 4 (c .keeping .ensures)
-      ∙ unlisted _ _ _ (e .before .before .find .ensures) _ (e .enum-told .given .1),
+          ∙ unlisted _ _ _ (e .before .before .find .ensures) _ (e .enum-told .given .1),
       keeps _ _ (c .keeping .ensures),
     )
 
@@ -80,7 +80,7 @@ returns-2 : tie.Need-returns-2
 returns-2 c =
     let k = c .before .before .before .before in (
       refuses _ _ _ _ _ _ _ _ 5 (c .keeping2 .ensures)
-      ∙ trap-stopped _ _ _ (search-of k .find .ensures) _ _ (k .found .given .1) _ (c .before .if1 .taken),
+          ∙ trap-stopped _ _ _ (search-of k .find .ensures) _ _ (k .found .given .1) _ (c .before .if1 .taken),
       keeps _ _ (c .keeping2 .ensures),
     )
 
@@ -99,9 +99,9 @@ returns-3 c =
     let b = c .before .before in
     let k = found-at b in (
       refuses _ _ _ _ _ _ _ _ 6 (c .keeping3 .ensures)
-      ∙ trap-none _ _ _ (search-of k .find .ensures) _ _ (k .found .given .1) _ (b .before .before .if1 .left)
-      (good (begin k) .shaped .entries) _ _ (b .before .word-at .ensures) (search-at b)
-      (c .before .if2 .taken),
+          ∙ trap-none _ _ _ (search-of k .find .ensures) _ _ (k .found .given .1) _ (b .before .before .if1 .left)
+          (good (begin k) .shaped .entries) _ _ (b .before .word-at .ensures) (search-at b)
+          (c .before .if2 .taken),
       keeps _ _ (c .keeping3 .ensures),
     )
 
@@ -164,10 +164,10 @@ returns-4 c =
     let k = found-at b in
     let s = begin k in (
       stops _ _ _ _ (Stop _) _ _ _ _ _ _ (o .stop .ensures)
-      ∙ trap-stop _ _ _ (search-of k .find .ensures) _ _ (k .found .given .1) _ (b .before .before .if1 .left)
-      (good s .shaped .entries) _ _ (b .before .word-at .ensures) (search-at b) (y .if2 .left) _
-      (entry-found (s .args .t) _ _ (good s) _ _ (search-at b) (y .if2 .left)) _ (s .pre .0 .0) _
-      (holding v) (n .if3 .taken),
+          ∙ trap-stop _ _ _ (search-of k .find .ensures) _ _ (k .found .given .1) _ (b .before .before .if1 .left)
+          (good s .shaped .entries) _ _ (b .before .word-at .ensures) (search-at b) (y .if2 .left) _
+          (entry-found (s .args .t) _ _ (good s) _ _ (search-at b) (y .if2 .left)) _ (s .pre .0 .0) _
+          (holding v) (n .if3 .taken),
       never _ (o .stop .ensures .0),
     )
 
@@ -191,9 +191,10 @@ returns-5 c =
     let s = begin k in
     let e = entry-found (s .args .t) _ _ (good s) _ _ (search-at b) (y .if2 .left) in (
       answers _ _ _ _ _ _ _ _ (c .keeping4 .ensures)
-      ∙ trap-pass _ _ _ (search-of k .find .ensures) _ _ (k .found .given .1) _ (b .before .before .if1 .left)
-      (good s .shaped .entries) _ _ (b .before .word-at .ensures) (search-at b) (y .if2 .left) _ e _ (s .pre .0 .0) _
-      (holding v) _ (pass-stored (s .args .t) _ _ _ (s .good .0) (y .if2 .left) ∙ ap passOf e) (n .if3 .left),
+          ∙ trap-pass _ _ _ (search-of k .find .ensures) _ _ (k .found .given .1) _ (b .before .before .if1 .left)
+          (good s .shaped .entries) _ _ (b .before .word-at .ensures) (search-at b) (y .if2 .left) _ e _
+          (s .pre .0 .0) _
+          (holding v) _ (pass-stored (s .args .t) _ _ _ (s .good .0) (y .if2 .left) ∙ ap passOf e) (n .if3 .left),
       keeps _ _ (c .keeping4 .ensures),
     )
 

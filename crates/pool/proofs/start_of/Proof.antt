@@ -39,7 +39,8 @@ loop-less : tie.Need-loop-less Inv-loop μ-loop
 loop-less c = omega arith
 
 -- one entry more
-more : (es : List Entry) (i : ℕ) (d : Entry) → i < length es → {sum n : ℕ} → sum ≡ startAt es i → n ≡ sizeOf (getD es i d)
+more : (es : List Entry) (i : ℕ) (d : Entry) → i < length es → {sum n : ℕ} → sum ≡ startAt es i → n
+    ≡ sizeOf (getD es i d)
     → sum + n ≡ startAt es (i + 1)
 more es i d h p q = omega (arith, start-more es i d h)
 

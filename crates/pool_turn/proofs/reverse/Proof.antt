@@ -80,7 +80,8 @@ same-length c = omega arith
 returns : tie.Need-returns Inv-loop μ-loop
 returns c =
     let o = c .before in
-    sym (reversed-short (o .loop .s) (o .loop .i) (o .loop .j) (omega arith) (omega arith) (omega arith)) ∙ o .loop .inv .3
+    sym (reversed-short (o .loop .s) (o .loop .i) (o .loop .j) (omega arith) (omega arith) (omega arith))
+    ∙ o .loop .inv .3
 
 pub reverse-spec : {M : Type 1} → statement M
 reverse-spec =

@@ -1,5 +1,5 @@
--- `program_run::event` meets its contract: what the step gave is what is shown; the reply buffer has no byte, before the
--- step and after it. Assumes nothing.
+-- `program_run::event` meets its contract: what the step gave is what is shown; the reply buffer has no byte, before
+-- the step and after it. Assumes nothing.
 use mathlib.Core.Path.{_≡_, refl}
 use mathlib.Core.List.{List, [], _∷_}
 use Prim.Native.Nat.{ℕ}

@@ -1,5 +1,5 @@
--- `request_condbreak::add` meets its contract: what the scan knows of the condition in hand and of the places held gives
--- the room for the element, which chooses the arm of the definition. Assumes nothing.
+-- `request_condbreak::add` meets its contract: what the scan knows of the condition in hand and of the places held
+-- gives the room for the element, which chooses the arm of the definition. Assumes nothing.
 use mathlib.Core.Path.{_≡_, sym, _∙_}
 use mathlib.Core.List.{List}
 use Prim.Native.Nat.{ℕ, _<_}
@@ -47,7 +47,8 @@ module _ (a : tie.After-room-for) (r : Room) (e : a .room-for .result ≡ r) whe
       (s .pre) hand)
       ∙ sym (a .room-for .ensures) ∙ e
 
-  decided : (mem regs : List ℕ) → joined (world-at s mem regs) (element s) r ≡ addElement (world-at s mem regs) (element s)
+  decided : (mem regs : List ℕ) → joined (world-at s mem regs) (element s) r
+      ≡ addElement (world-at s mem regs) (element s)
   decided mem regs = add-joined (world-at s mem regs) (element s) r hand room
 
 -- an element that fits finds a place that is not held, and fewer than 64 before it

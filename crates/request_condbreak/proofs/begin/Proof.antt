@@ -98,7 +98,8 @@ returns-2 c =
     let f = c .before .before in
     let s = start f in
     λ words mem regs r. c .fail2 .ensures _ words mem regs
-    ∙ used (viewOf (s .args .t) words) mem regs (s .args .val) (eight-at s words) (omega arith) (omega (arith, found f words r))
+    ∙ used (viewOf (s .args .t) words) mem regs (s .args .val) (eight-at s words) (omega arith)
+    (omega (arith, found f words r))
 
 entry-of-requires-2 : tie.Need-entry-of-requires-2
 entry-of-requires-2 c κs = search needs
@@ -113,7 +114,8 @@ returns-3 c =
     let s = start f in
     λ words mem regs r.
     c .fail3 .ensures _ words mem regs
-    ∙ full (viewOf (s .args .t) words) mem regs (s .args .val) (eight-at s words) (omega arith) (omega (arith, found f words r))
+    ∙ full (viewOf (s .args .t) words) mem regs (s .args .val) (eight-at s words) (omega arith)
+    (omega (arith, found f words r))
     (omega (arith, free g words r))
 
 cast-id : tie.Need-cast-id

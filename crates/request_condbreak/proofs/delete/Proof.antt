@@ -97,7 +97,8 @@ returns : tie.Need-returns
 unfolding stored deleteBreakpoint error
 returns c =
     let t = c .before in
-    λ regs. rw (lt-leb _ 255 (t .if1 .taken)) (replies _ _ _ _ regs (c .answering .ensures) (t .before .bytes-of .ensures))
+    λ regs. rw (lt-leb _ 255 (t .if1 .taken))
+    (replies _ _ _ _ regs (c .answering .ensures) (t .before .bytes-of .ensures))
 
 entry-of-requires : tie.Need-entry-of-requires
 entry-of-requires c κs = search needs

@@ -1,5 +1,5 @@
--- `request_condbreak::plant` meets its contract: the entry that is stored, the pool, the trap that is laid and the reply
--- are the definition's. Assumes nothing.
+-- `request_condbreak::plant` meets its contract: the entry that is stored, the pool, the trap that is laid and the
+-- reply are the definition's. Assumes nothing.
 use mathlib.Core.Path.{_≡_, _∙_}
 use Prim.Native.Nat.{_-_, _<_, _≤_}
 use native.Mathlib.Omega.{arith}
@@ -64,7 +64,8 @@ abbrev found-at : tie.After-struct-known3 → tie.After-entry-of
 found-at c = c .before .before .before .before .before .before .before
 
 start-at : (c : tie.After-struct-known3)
-    → c .before .before .start-of .result ≡ startAt (start (found-at c) .args .t .table .entries) (found-at c .entry-of .result)
+    → c .before .before .start-of .result
+    ≡ startAt (start (found-at c) .args .t .table .entries) (found-at c .entry-of .result)
 start-at c = c .before .before .start-of .ensures .0
 
 sub-at : tie.Need-sub-at
@@ -117,7 +118,8 @@ returns c =
     let s = start f in
     let t = s .args .t in
     let eight : length (t .table .entries) ≡ 8 = eight-stored t _ (s .good .0) in
-    λ regs. plants t (now (s .args .places)) (now (s .args .mem)) regs (s .args .site) _ _ _ _ _ _ _ _ _ (c .done .ensures)
+    λ regs. plants t (now (s .args .places)) (now (s .args .mem)) regs (s .args .site) _ _ _ _ _ _ _ _ _
+    (c .done .ensures)
     (s .pre .hand) (found f) (omega (arith, below f)) (start-at (p .before)) (middle f) (held f) (p .turn .ensures .0)
     (omega (arith, few f, p .turn .ensures .1)) _ _ (s .pre .traps) (s .pre .plain)
     (first f .plain-at .ensures) (second f .plain-at2 .ensures) (laid f .lay .ensures)

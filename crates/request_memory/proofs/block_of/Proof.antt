@@ -32,8 +32,10 @@ returns-3 c words =
     let f = k .before .before in
     let e = f .before in
     let s = e .before .before in
-    let l = found-listed (s .args .t .processes) (s .args .t .count) (s .args .t .current) _ _ _ (f .find .ensures) (k .found .given .1) in
-    block-stopped (s .args .t) words (e .if1 .left) _ (l .0) (ap (λ (p : Process). p .state) (sym (l .2)) ∙ c .if2 .taken)
+    let l = found-listed (s .args .t .processes) (s .args .t .count) (s .args .t .current) _ _ _ (f .find .ensures)
+    (k .found .given .1) in
+    block-stopped (s .args .t) words (e .if1 .left) _ (l .0)
+    (ap (λ (p : Process). p .state) (sym (l .2)) ∙ c .if2 .taken)
 
 returns-4 : tie.Need-returns-4
 returns-4 c words =
@@ -41,8 +43,10 @@ returns-4 c words =
     let f = k .before .before in
     let e = f .before in
     let s = e .before .before in
-    let l = found-listed (s .args .t .processes) (s .args .t .count) (s .args .t .current) _ _ _ (f .find .ensures) (k .found .given .1) in
-    block-running (s .args .t) words (e .if1 .left) _ (l .0) (λ q. c .if2 .left (ap (λ (p : Process). p .state) (l .2) ∙ q))
+    let l = found-listed (s .args .t .processes) (s .args .t .count) (s .args .t .current) _ _ _ (f .find .ensures)
+    (k .found .given .1) in
+    block-running (s .args .t) words (e .if1 .left) _ (l .0)
+    (λ q. c .if2 .left (ap (λ (p : Process). p .state) (l .2) ∙ q))
 
 pub block-of-spec : {M : Type 1} → statement M
 block-of-spec =

@@ -29,7 +29,8 @@ answering-requires c κs = search needs
 
 returns : tie.Need-returns
 unfolding stored
-returns c words f = rw (c .answering .ensures) (put-none _ _ _ _ (c .before .if1 .taken) _ (c .before .before .bytes-of .ensures))
+returns c words f = rw (c .answering .ensures)
+    (put-none _ _ _ _ (c .before .if1 .taken) _ (c .before .before .bytes-of .ensures))
 
 place-of-requires : tie.Need-place-of-requires
 place-of-requires c κs = search needs
@@ -169,8 +170,10 @@ returns-3 c words f =
     let k = e .before .before in
     let a = k .before .before .before .before .before .args in
     rw (c .answering2 .ensures)
-    (put-to (world (viewOf (a .t) words) (now (a .mem)) (now (a .regs))) (a .addr) (a .n) (a .d) (k .before .if1 .left) _
-    (named _ _ _ _ _ _ (k .place-of .ensures) (e .enum-told .given .1)) _ (p .put-registers .ensures words (now (a .mem))))
+    (put-to (world (viewOf (a .t) words) (now (a .mem)) (now (a .regs))) (a .addr) (a .n) (a .d)
+    (k .before .if1 .left) _
+    (named _ _ _ _ _ _ (k .place-of .ensures) (e .enum-told .given .1)) _
+    (p .put-registers .ensures words (now (a .mem))))
 
 same-length-3 : tie.Need-same-length-3
 same-length-3 c = search needs

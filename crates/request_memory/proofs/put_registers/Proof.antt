@@ -39,7 +39,8 @@ returns-2 c words mem =
     let a = b .before .before .before .before .args in
     let w = world (viewOf (a .t) words) mem (now (a .regs)) in
     refuses w _ _ (c .rerr2 .ensures)
-    ∙ put-refused w (a .addr) (now (a .bytes)) (b .before .if1 .left) _ _ (b .block-of .ensures words) (k .block .given .1)
+    ∙ put-refused w (a .addr) (now (a .bytes)) (b .before .if1 .left) _ _ (b .block-of .ensures words)
+    (k .block .given .1)
 
 enum-known-block-2 : tie.Need-enum-known-block-2
 enum-known-block-2 c = search needs

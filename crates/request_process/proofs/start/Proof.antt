@@ -26,7 +26,8 @@ begin k = search-of k .before .before
 fits : (k : tie.After-found) → 136 * (k .found .given .0 .0) + 136 ≤ length (now (begin k .args .regs))
 fits k =
     let s = begin k in
-    let l = found-listed (s .args .t .processes) (s .args .t .count) (s .args .pid) _ _ _ (search-of k .find .ensures) (k .found .given .1) in
+    let l = found-listed (s .args .t .processes) (s .args .t .count) (s .args .pid) _ _ _ (search-of k .find .ensures)
+    (k .found .given .1) in
     omega (arith, l .1, s .pre .1)
 
 find-requires : tie.Need-find-requires

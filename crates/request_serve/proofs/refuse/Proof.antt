@@ -36,4 +36,5 @@ returns-2 c =
     (replies _ _ words mem regs (c .answering .ensures) (b .bytes-of .ensures))
 
 pub refuse-spec : {M : Type 1} → statement M
-refuse-spec = tie.close (tie.spec drops-draft-requires fail-requires returns bytes-of-requires answering-requires returns-2)
+refuse-spec = tie.close
+    (tie.spec drops-draft-requires fail-requires returns bytes-of-requires answering-requires returns-2)

@@ -75,8 +75,11 @@ enum-known-m-2 c = search needs
 mput-requires : tie.Need-mput-requires
 mput-requires c κs =
     let m = c .before .before .before in
-    let s = m .before .before .before .before in
-    (ready-lent (s .args .t) _ _ _ (s .pre .0 .0) _ (s .pre .0 .1), omega (arith, put-few _ _ _ _ (m .m2 .given .1) (s .pre .1)))
+    let s = m .before .before .before .before in (
+      ready-lent (s .args .t) _ _ _ (s .pre .0 .0) _ (s .pre .0 .1),
+      omega
+          (arith, put-few _ _ _ _ (m .m2 .given .1) (s .pre .1)),
+    )
 
 enum-known-m-3 : tie.Need-enum-known-m-3
 enum-known-m-3 c = search needs
@@ -190,7 +193,8 @@ returns-9 : tie.Need-returns-9
 unfolding error stored
 returns-9 c =
     let b = c .before in
-    replies _ _ _ _ _ (c .answering2 .ensures) (b .bytes-of .ensures) ∙ others _ _ (among-yes _ _ (b .before .match .keys9))
+    replies _ _ _ _ _ (c .answering2 .ensures) (b .bytes-of .ensures)
+    ∙ others _ _ (among-yes _ _ (b .before .match .keys9))
 
 pub serve-spec : {M : Type 1} → statement M
 serve-spec =

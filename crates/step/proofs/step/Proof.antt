@@ -40,7 +40,8 @@ unfolding sized
 ready q =
     let z = right-sized (q .before) in
     let a = start (z .before) .args in
-    ready-by (world (viewOf (a .t) (now (a .places))) (now (a .mem)) (now (a .regs))) _ (z .before .sizes-right .ensures) (z .if1 .left) _
+    ready-by (world (viewOf (a .t) (now (a .places))) (now (a .mem)) (now (a .regs))) _
+    (z .before .sizes-right .ensures) (z .if1 .left) _
     (q .before .before .check .ensures) (q .if3 .left)
 
 sizes-right-requires : tie.Need-sizes-right-requires
@@ -54,7 +55,7 @@ unfolding sized
 returns c =
     let z = c .before in (
       refuses _ _ _ _ _ _ _ _ 2 (c .keeping .ensures)
-      ∙ wrong-size _ _ _ _ _ _ _ (z .before .sizes-right .ensures) (z .if1 .taken),
+          ∙ wrong-size _ _ _ _ _ _ _ (z .before .sizes-right .ensures) (z .if1 .taken),
       λ n. (keeps _ _ (c .keeping .ensures) n, refl),
     )
 
@@ -68,7 +69,7 @@ returns-2 : tie.Need-returns-2
 returns-2 c =
     let l = c .before in (
       refuses _ _ _ _ _ _ _ _ 2 (c .keeping2 .ensures)
-      ∙ wrong-lent _ _ _ _ _ _ _ (l .before .lent-right .ensures) (l .if2 .taken),
+          ∙ wrong-lent _ _ _ _ _ _ _ (l .before .lent-right .ensures) (l .if2 .taken),
       λ n. (keeps _ _ (c .keeping2 .ensures) n, refl),
     )
 
@@ -87,8 +88,8 @@ returns-3 c =
     let k = c .before .before in
     let z = right-sized k in (
       refuses _ _ _ _ _ _ _ _ 3 (c .keeping3 .ensures)
-      ∙ unfit _ _ _ _ _ _ (lent k) _ (z .before .sizes-right .ensures) (z .if1 .left) _ (k .before .check .ensures)
-      (c .before .if3 .taken),
+          ∙ unfit _ _ _ _ _ _ (lent k) _ (z .before .sizes-right .ensures) (z .if1 .left) _ (k .before .check .ensures)
+          (c .before .if3 .taken),
       λ n. (keeps _ _ (c .keeping3 .ensures) n, refl),
     )
 
@@ -165,7 +166,8 @@ returns-5 c =
     let r = c .before .before in
     let m = r .before .before .before .before in (
       leaves _ (r .trap .result) _ _ _ _ _ (r .trap .ensures .0)
-      ∙ taken _ _ _ _ _ _ (lent (m .before .before .before)) _ (ready (m .before .before)) _ (m .enum-told2 .given .1),
+          ∙ taken _ _ _ _ _ _ (lent (m .before .before .before)) _ (ready (m .before .before)) _
+          (m .enum-told2 .given .1),
       λ n. (r .trap .ensures .1 n, refl),
     )
 
@@ -180,7 +182,8 @@ returns-6 c =
     let r = c .before .before in
     let m = r .before .before in (
       leaves _ (r .schedule .result) _ _ _ _ _ (r .schedule .ensures .0 _ _)
-      ∙ taken _ _ _ _ _ _ (lent (m .before .before .before)) _ (ready (m .before .before)) _ (m .enum-told3 .given .1),
+          ∙ taken _ _ _ _ _ _ (lent (m .before .before .before)) _ (ready (m .before .before)) _
+          (m .enum-told3 .given .1),
       λ n. (r .schedule .ensures .1 n, refl),
     )
 
@@ -191,7 +194,8 @@ returns-7 : tie.Need-returns-7
 returns-7 c =
     let m = c .before in (
       leaves _ (c .state .result) _ _ _ _ _ (c .state .ensures .0 _ _ _)
-      ∙ taken _ _ _ _ _ _ (lent (m .before .before .before)) _ (ready (m .before .before)) _ (m .enum-told4 .given .1),
+          ∙ taken _ _ _ _ _ _ (lent (m .before .before .before)) _ (ready (m .before .before)) _
+          (m .enum-told4 .given .1),
       λ n. (c .state .ensures .1 n, refl),
     )
 

@@ -1,5 +1,5 @@
--- `target_change::with_plains` meets its contract: the loop's invariant is that entries before k are as the definition has
--- them, those from k on as they were. Assumes nothing.
+-- `target_change::with_plains` meets its contract: the loop's invariant is that entries before k are as the definition
+-- has them, those from k on as they were. Assumes nothing.
 use mathlib.Core.Path.{_≡_, refl, ap, _∙_}
 use Prim.Native.Nat.{_+_, _*_, _-_, _≤_, _<_}
 use native.Mathlib.Omega.{arith}
