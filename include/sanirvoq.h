@@ -152,17 +152,20 @@ static inline uint8_t sanirvoq_answer(uint32_t result) { return (uint8_t)(result
 static inline uint8_t sanirvoq_first(uint32_t result) { return (uint8_t)(result >> 16); }
 static inline uint8_t sanirvoq_second(uint32_t result) { return (uint8_t)(result >> 24); }
 
-/* ---- the steps, as they are proved: all of one form ----
+/* ---- the steps, as they are proved: all but the setup of one form ----
  *
- * Each takes the record, the memory window, the register area (136 bytes for each process), a pid, a byte, an input
- * and a reply buffer, and says below which of the last four it uses. What it does not use it leaves as it is. */
-typedef uint32_t sanirvoq_step(struct sanirvoq_record *record, uint8_t *memory, size_t memory_length,
+ * Each takes the two parts of a record, its target and its places, the memory window, the register area (136 bytes for
+ * each process), a pid, a byte, an input and a reply buffer, and says below which of the last four it uses. What it does
+ * not use it leaves as it is. */
+typedef uint32_t sanirvoq_step(struct sanirvoq_target *target, uint32_t *places, uint8_t *memory, size_t memory_length,
                                uint8_t *registers, size_t registers_length, uint32_t pid, uint8_t value,
                                const uint8_t *input, size_t input_length, uint8_t *reply, size_t reply_length);
 
-/* Takes base, size, count and the pids and addresses of the first count processes from the record's target, and makes
- * the rest of that. The places, of which none is held then, stay as they are. */
-sanirvoq_step sanirvoq_step_setup;
+/* Takes base, size, count and the pids and addresses of the first count processes from the target, and makes the rest of
+ * that. It has no places: none is held then. It uses none of the last four. */
+uint32_t sanirvoq_step_setup(struct sanirvoq_target *target, uint8_t *memory, size_t memory_length, uint8_t *registers,
+                             size_t registers_length, uint32_t pid, uint8_t value, const uint8_t *input,
+                             size_t input_length, uint8_t *reply, size_t reply_length);
 /* Uses input (a request of ten bytes) and reply (ten bytes). Its answer may be 2 with the plain bytes. */
 sanirvoq_step sanirvoq_step_request;
 /* Uses pid and input (the process's block, 136 bytes). */
@@ -199,7 +202,7 @@ static inline uint8_t sanirvoq_setup(struct sanirvoq_record *record, struct sani
         target->processes[i].pid = pids[i];
         target->processes[i].address = addresses[i];
     }
-    return sanirvoq_number(sanirvoq_step_setup(record, lent.memory, lent.memory_length, lent.registers,
+    return sanirvoq_number(sanirvoq_step_setup(target, lent.memory, lent.memory_length, lent.registers,
                                                lent.registers_length, 0, 0, &none, 0, &none, 0));
 }
 
@@ -209,16 +212,16 @@ static inline uint8_t sanirvoq_setup(struct sanirvoq_record *record, struct sani
 static inline uint32_t sanirvoq_request(struct sanirvoq_record *record, struct sanirvoq_lent lent,
                                         const uint8_t *request, size_t request_length, uint8_t *reply,
                                         size_t reply_length) {
-    return sanirvoq_step_request(record, lent.memory, lent.memory_length, lent.registers, lent.registers_length, 0, 0,
-                                 request, request_length, reply, reply_length);
+    return sanirvoq_step_request(&record->target, record->places, lent.memory, lent.memory_length, lent.registers,
+                                 lent.registers_length, 0, 0, request, request_length, reply, reply_length);
 }
 
 /* A process ran into a trap, with these registers. Answers a result: numbers 0, 2 to 6, and Stop or Pass. */
 static inline uint32_t sanirvoq_trap(struct sanirvoq_record *record, struct sanirvoq_lent lent, uint32_t pid,
                                      const uint8_t *block, size_t block_length) {
     uint8_t none = 0;
-    return sanirvoq_step_trap(record, lent.memory, lent.memory_length, lent.registers, lent.registers_length, pid, 0,
-                              block, block_length, &none, 0);
+    return sanirvoq_step_trap(&record->target, record->places, lent.memory, lent.memory_length, lent.registers,
+                              lent.registers_length, pid, 0, block, block_length, &none, 0);
 }
 
 /* The kernel is about to run a process, with these registers. Answers a result: numbers 0, 2 to 4, and whether it is
@@ -226,24 +229,26 @@ static inline uint32_t sanirvoq_trap(struct sanirvoq_record *record, struct sani
 static inline uint32_t sanirvoq_schedule(struct sanirvoq_record *record, struct sanirvoq_lent lent, uint32_t pid,
                                          const uint8_t *block, size_t block_length) {
     uint8_t none = 0;
-    return sanirvoq_step_schedule(record, lent.memory, lent.memory_length, lent.registers, lent.registers_length, pid,
-                                  0, block, block_length, &none, 0);
+    return sanirvoq_step_schedule(&record->target, record->places, lent.memory, lent.memory_length, lent.registers,
+                                  lent.registers_length, pid, 0, block, block_length, &none, 0);
 }
 
 /* The kernel gives a process another state. Answers 0, 2 to 5. */
 static inline uint8_t sanirvoq_state(struct sanirvoq_record *record, struct sanirvoq_lent lent, uint32_t pid,
                                      uint8_t value) {
     uint8_t none = 0;
-    return sanirvoq_number(sanirvoq_step_state(record, lent.memory, lent.memory_length, lent.registers,
-                                               lent.registers_length, pid, value, &none, 0, &none, 0));
+    return sanirvoq_number(sanirvoq_step_state(&record->target, record->places, lent.memory, lent.memory_length,
+                                               lent.registers, lent.registers_length, pid, value, &none, 0, &none,
+                                               0));
 }
 
 /* The debug session begins anew: every trap's plain bytes go back. Answers 0, 2 or 3; the reply is Rerr reset. */
 static inline uint8_t sanirvoq_restart(struct sanirvoq_record *record, struct sanirvoq_lent lent, uint8_t *reply,
                                        size_t reply_length) {
     uint8_t none = 0;
-    return sanirvoq_number(sanirvoq_step_restart(record, lent.memory, lent.memory_length, lent.registers,
-                                                 lent.registers_length, 0, 0, &none, 0, reply, reply_length));
+    return sanirvoq_number(sanirvoq_step_restart(&record->target, record->places, lent.memory, lent.memory_length,
+                                                 lent.registers, lent.registers_length, 0, 0, &none, 0, reply,
+                                                 reply_length));
 }
 
 /* ---- messages, for the host's side too ---- */

@@ -15,6 +15,7 @@ use Rattle.rules.proofs.Worked.{setup-accepted}
 use Rattle.rules.specs.Outcome.{World, world, Outcome, outcome}
 use Rattle.rules.specs.Step.{beginning, setupTarget, setupOf}
 use Rattle.rules.specs.declared.Answer.{Answer}
+use Rattle.target.specs.View.{viewOf}
 use Rattle.target.specs.declared.Target.{Target}
 use Rattle.program_run.specs.declared.Ran.{Ran}
 use Rattle.program_run.specs.Encoding.{pidBytes, stepMost}
@@ -41,12 +42,12 @@ same-setup mem regs m r = rw (m, r)
 
 pub begins : (mem regs : List ℕ) → mem ≡ workedSetup .mem → regs ≡ workedSetup .regs
     → (t : Target) (number : ℕ) (answer : Answer)
-    → outcome number answer (world t mem regs) []
-    ≡ setupOf 4096 64 (5 ∷ 7 ∷ 0 ∷ 0 ∷ []) (0x80001000 ∷ 0x80002000 ∷ 0 ∷ 0 ∷ []) 2 mem regs
+    → ((words : List ℕ) → outcome number answer (world (viewOf t words) mem regs) []
+    ≡ setupOf 4096 64 (5 ∷ 7 ∷ 0 ∷ 0 ∷ []) (0x80001000 ∷ 0x80002000 ∷ 0 ∷ 0 ∷ []) 2 mem regs)
     → Begins (record { target = t; mem = mem; regs = regs })
 begins mem regs m r t number answer e = record {
   accepted = setup-accepted;
-  target = ap (λ (o : Outcome). o .after .target) (e ∙ same-setup mem regs m r);
+  target = λ words. ap (λ (o : Outcome). o .after .target) (e words ∙ same-setup mem regs m r);
   mem = m;
   regs = r;
 }
@@ -66,12 +67,12 @@ moved l from to h g =
     take-at (take n (drop from l)) _ n c ∙ ap (take n) a ∙ take-at (drop from (take to l)) (drop to l) n b
 
 module _ (w : World) (input : List ℕ) (have : ℕ) (h : have ≤ length input) (before : List ℕ)
-    (room : stepMost * length input ≤ length before) (r : Ran) (mem regs after : List ℕ)
-    (run : Runs (runWithin w (take have input) (length before)) r mem regs before after) where
+    (room : stepMost * length input ≤ length before) (r : Ran) (words mem regs after : List ℕ)
+    (run : Runs (runWithin w (take have input) (length before)) r words mem regs before after) where
   enough : stepMost * length (take have input) ≤ length before
   enough = omega (arith, length-take have input)
 
-  whole : Runs (runOf w (take have input)) r mem regs before after
+  whole : Runs (runOf w (take have input)) r words mem regs before after
   whole = rw (room-enough w (take have input) (length before) enough .whole) at run
 
   pub turn-used : r .used ≤ have
@@ -81,7 +82,7 @@ module _ (w : World) (input : List ℕ) (have : ℕ) (h : have ≤ length input)
       → (kept ≡ have - r .used) × (left ≡ paste input 0 (drop (r .used) input) kept)
       → (more : Bool) → more ≡ goesOn (r .end)
       → TurnLeaves w (take have input) (record { target = r .target; filled = r .filled; kept = kept; more = more })
-      mem regs left before after
+      words mem regs left before after
   turn-leaves kept left m more e =
       let q = runOf w (take have input) in
       let fits = room-enough w (take have input) (length before) enough .fits in
@@ -95,9 +96,9 @@ module _ (w : World) (input : List ℕ) (have : ℕ) (h : have ≤ length input)
       }
 
 -- where more may follow, what a turn keeps is less than the longest step
-pub kept-few : (w : World) (bytes : List ℕ) (r : Turned) (mem regs input before after : List ℕ)
-    → TurnLeaves w bytes r mem regs input before after → r .more ≡ true → r .kept ≤ pidBytes + blockSize
-kept-few w bytes r mem regs input before after o e = rw (o .kept) (few-left w bytes (sym (o .more) ∙ e))
+pub kept-few : (w : World) (bytes : List ℕ) (r : Turned) (words mem regs input before after : List ℕ)
+    → TurnLeaves w bytes r words mem regs input before after → r .more ≡ true → r .kept ≤ pidBytes + blockSize
+kept-few w bytes r words mem regs input before after o e = rw (o .kept) (few-left w bytes (sym (o .more) ∙ e))
 
 -- ---- between two turns
 
@@ -105,29 +106,30 @@ pub is-true : (b : Bool) → not b ≡ false → b ≡ true
 is-true true e = refl
 is-true false e = sym e
 
-pub between-begin : (r : Beginning) → Begins r → (input : List ℕ) → BetweenTurns (r .target) (r .mem) (r .regs) input 0
+pub between-begin : (r : Beginning) → Begins r → (words input : List ℕ)
+    → BetweenTurns (r .target) words (r .mem) (r .regs) input 0
 unfolding ended goesOn
-between-begin r b input = record {
+between-begin r b words input = record {
   read = [];
-  world = rw (run-none workedWorld, b .target, b .mem, b .regs);
+  world = rw (run-none workedWorld, b .target words, b .mem, b .regs);
   left = rw (run-none workedWorld);
   more = rw (run-none workedWorld);
 }
 
 -- a read behind what is kept, and a turn over both
-module _ (t : Target) (mem regs input : List ℕ) (kept : ℕ) (b : BetweenTurns t mem regs input kept) where
+module _ (t : Target) (words mem regs input : List ℕ) (kept : ℕ) (b : BetweenTurns t words mem regs input kept) where
   pub between-on : (filled : List ℕ) (got : ℕ) → take kept filled ≡ take kept input
-      → (r : Turned) (mem′ regs′ input′ before after : List ℕ)
-      → TurnLeaves (world t mem regs) (take (kept + got) filled) r mem′ regs′ input′ before after → r .more ≡ true
-      → BetweenTurns (r .target) mem′ regs′ input′ (r .kept)
+      → (r : Turned) (words′ mem′ regs′ input′ before after : List ℕ)
+      → TurnLeaves (world (viewOf t words) mem regs) (take (kept + got) filled) r words′ mem′ regs′ input′ before after
+      → r .more ≡ true → BetweenTurns (r .target) words′ mem′ regs′ input′ (r .kept)
   unfolding resumed followedBy
-  between-on filled got same r mem′ regs′ input′ before after o e =
+  between-on filled got same r words′ mem′ regs′ input′ before after o e =
       let q = runOf workedWorld (b .read) in
       let piece = take got (drop kept filled) in
       let bytes : take (kept + got) filled ≡ remaining q (b .read) ++ piece =
       take-add kept got filled ∙ rw (same, b .left) in
       let x = runOf (q .after) (remaining q (b .read) ++ piece) in
-      let run : runOf (world t mem regs) (take (kept + got) filled) ≡ x = rw (b .world, bytes) in
+      let run : runOf (world (viewOf t words) mem regs) (take (kept + got) filled) ≡ x = rw (b .world, bytes) in
       let all : runOf workedWorld (b .read ++ piece) ≡ followedBy q x =
       run-joined workedWorld (b .read) piece ∙ rw (b .more) in
       let rest : remaining (followedBy q x) (b .read ++ piece) ≡ remaining x (remaining q (b .read) ++ piece) =

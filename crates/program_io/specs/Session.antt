@@ -11,6 +11,7 @@ use Rattle.rules.specs.Step.{setupBy}
 use Rattle.rules.specs.Claim.{step}
 use Rattle.rules.specs.Worked.{workedSetup}
 use Rattle.rules.specs.Outcome.{World, world}
+use Rattle.target.specs.View.{viewOf}
 use Rattle.target.specs.declared.Target.{Target}
 use Rattle.program_run.specs.History.{bookAfter}
 use Rattle.program_run.specs.Laws.{remaining}
@@ -21,10 +22,11 @@ use Rattle.program_io.specs.declared.Turned.{Turned}
 
 -- ---- the beginning
 
--- the worked setup is accepted; these are its record, its memory "byte at B + i is i" and its register area of zeros
+-- the worked setup is accepted; these are its record, whatever the pool has, its memory "byte at B + i is i" and its
+-- register area of zeros
 pub record Begins (r : Beginning) : Type 0 where
   pub accepted : setupBy workedSetup .number ≡ 0
-  pub target : r .target ≡ setupBy workedSetup .after .target
+  pub target : (words : List ℕ) → viewOf (r .target) words ≡ setupBy workedSetup .after .target
   pub mem : r .mem ≡ workedSetup .mem
   pub regs : r .regs ≡ workedSetup .regs
 
@@ -34,8 +36,9 @@ workedWorld = world (setupBy workedSetup .after .target) (workedSetup .mem) (wor
 -- ---- a turn
 
 -- over these bytes: the world, the output at the front of its buffer, and what is left at the front of the input's
-pub record TurnLeaves (w : World) (bytes : List ℕ) (r : Turned) (mem regs input before after : List ℕ) : Type 0 where
-  pub world : world (r .target) mem regs ≡ runOf w bytes .after
+pub record TurnLeaves (w : World) (bytes : List ℕ) (r : Turned) (words mem regs input before after : List ℕ)
+    : Type 0 where
+  pub world : world (viewOf (r .target) words) mem regs ≡ runOf w bytes .after
   pub writes : Writes (runOf w bytes .output) (r .filled) before after
   pub fits : r .filled ≤ length after
   pub left : take (r .kept) input ≡ remaining (runOf w bytes) bytes
@@ -46,9 +49,9 @@ pub record TurnLeaves (w : World) (bytes : List ℕ) (r : Turned) (mem regs inpu
 
 -- for the bytes that were read in all: the world is what the program comes to over them, what it left of them stands at
 -- the front of the input's buffer, and more may follow
-pub record BetweenTurns (t : Target) (mem regs input : List ℕ) (kept : ℕ) : Type 0 where
+pub record BetweenTurns (t : Target) (words mem regs input : List ℕ) (kept : ℕ) : Type 0 where
   pub read : List ℕ
-  pub world : world t mem regs ≡ runOf workedWorld read .after
+  pub world : world (viewOf t words) mem regs ≡ runOf workedWorld read .after
   pub left : take kept input ≡ remaining (runOf workedWorld read) read
   pub more : goesOn (runOf workedWorld read .end) ≡ true
 

@@ -1,9 +1,10 @@
 // The program of the worked setup: steps from standard input, answers on standard output. `program_run` runs the
-// steps; here is what lies around it: the setup, the buffers, reading and writing.
+// steps; here is what lies around it: the setup, the pool, the buffers, reading and writing.
 use libc::STDIN_FILENO;
 use libc::STDOUT_FILENO;
 use program_run::End;
 use target::Process;
+use target::Table;
 use target::Target;
 ghost use mathlib.Core.Path.{_≡_};
 ghost use Prim.Native.Nat.{_+_, _-_, _*_, _≤_};
@@ -12,6 +13,7 @@ ghost use lib.Seq.{paste};
 ghost use Rattle.common.specs.Tab.{tab};
 ghost use Rattle.target.specs.Limits.{blockSize};
 ghost use Rattle.rules.specs.Outcome.{world};
+ghost use Rattle.target.specs.View.{viewOf};
 ghost use Rattle.program_run.specs.Encoding.{stepMost};
 ghost use Rattle.program_run.specs.Run.{goesOn};
 ghost use Rattle.program_io.specs.Session.{Begins, TurnLeaves};
@@ -122,6 +124,7 @@ fn wants_more(end: End) -> bool
 // Runs the steps that are whole among the first `have` bytes of the buffer, and moves what they leave to its front.
 fn turn(
     t: Target,
+    places: &mut [u32; Table::WORDS],
     mem: &mut [u8],
     regs: &mut [u8],
     input: &mut [u8],
@@ -130,10 +133,11 @@ fn turn(
 ) -> Turned
     requires { ⌜ (have ≤ length (now input)) × (stepMost * length (now input) ≤ length (now output)) ⌝ }
     ensures { λ r. ⌜ TurnLeaves
-        (world t (now (mem .entry)) (now (regs .entry))) (take have (now (input .entry)))
-        r (now (mem .exit)) (now (regs .exit)) (now (input .exit)) (now (output .entry)) (now (output .exit)) ⌝ }
+        (world (viewOf t (now (places .entry))) (now (mem .entry)) (now (regs .entry))) (take have (now (input .entry)))
+        r (now (places .exit)) (now (mem .exit)) (now (regs .exit)) (now (input .exit)) (now (output .entry))
+        (now (output .exit)) ⌝ }
 {
-    let ran = program_run::run(t, mem, regs, &input[..have], output);
+    let ran = program_run::run(t, places, mem, regs, &input[..have], output);
     let after = ran.target;
     let used = ran.used;
     let end = ran.end;
@@ -157,6 +161,7 @@ pub fn serve_all() {
     let mut mem = begin.mem;
     let mut regs = begin.regs;
     let mut t = begin.target;
+    let mut places = [0u32; Table::WORDS];
     let mut input = io::buffer();
     let mut output = io::large_buffer();
     let mut kept: usize = 0;
@@ -166,7 +171,15 @@ pub fn serve_all() {
         if got == 0 {
             return;
         }
-        let next = turn(t, &mut mem, &mut regs, &mut input, kept + got, &mut output);
+        let next = turn(
+            t,
+            &mut places,
+            &mut mem,
+            &mut regs,
+            &mut input,
+            kept + got,
+            &mut output,
+        );
         let filled = next.filled;
         if !io::write_all(STDOUT_FILENO, &output[..filled]) {
             return;

@@ -12,7 +12,7 @@ use Rattle.rules.specs.Claim.{Stub, stubOf, Action, step, change, Claim}
 use Rattle.rules.specs.Outcome.{World, world}
 use Rattle.rules.specs.Step.{Step, stepOf}
 use Rattle.rules.proofs.Theorem.{demand3}
-use Rattle.target.specs.declared.Target.{Target}
+use Rattle.target.specs.View.{Target, viewOf}
 use Rattle.program_run.specs.declared.Ran.{Ran}
 use Rattle.program_run.specs.Encoding.{stepMost, bodyOf, encoded, stepOn}
 use Rattle.program_run.specs.History.{Moment, firstMoment, afterAction, afterActions, Allowed, EachAllowed}
@@ -96,9 +96,10 @@ within-book w input room =
     (λ h. rw (room-enough w input room h .whole) (run-agrees w input))
 
 -- what a run's contract says
-pub with-book : (w : World) (input : List ℕ) (r : Ran) (mem regs before after : List ℕ)
-    → Runs (runWithin w input (length before)) r mem regs before after → RunLeaves w input r mem regs before after
-with-book w input r mem regs before after h =
-    let a : r .target ≡ _ = ap (λ (w : World). w .target) (h .world) in
+pub with-book : (w : World) (input : List ℕ) (r : Ran) (words mem regs before after : List ℕ)
+    → Runs (runWithin w input (length before)) r words mem regs before after
+    → RunLeaves w input r words mem regs before after
+with-book w input r words mem regs before after h =
+    let a : viewOf (r .target) words ≡ _ = ap (λ (w : World). w .target) (h .world) in
     let b : mem ≡ _ = ap (λ (w : World). w .mem) (h .world) in
     record { run = h; book = rw (a, b) (within-book w input (length before)) }

@@ -8,14 +8,15 @@ use native.Mathlib.Omega.{arith}
 use lib.ListN.{length, getD, take, drop, set, length-drop, drop-of-length-le}
 use lib.Seq.{drop-cons, drop-drop, set-split}
 use Rattle.common.proofs.Lists.{part-to-end}
-use Rattle.rules.specs.Outcome.{World, world, Outcome}
+use Rattle.rules.specs.Outcome.{World, world, Outcome, shown}
+use Rattle.target.specs.declared.Target.{Target}
+use Rattle.target.specs.View.{viewOf}
 use Rattle.program_run.specs.declared.End.{End}
 use Rattle.program_run.specs.declared.End.the-variants.{UsedUp, Cut, OtherKind, Full}
 use Rattle.step.specs.declared.StepKind.{StepKind}
 use Rattle.program_run.specs.declared.KindByte.the-variants.{Listed, Unlisted}
 use Rattle.program_run.specs.declared.Stepped.{Stepped}
 use Rattle.program_run.specs.Encoding.{stepMost, listedKind, bodyOf, stepOn}
-use Rattle.rules.specs.Outcome.{shown}
 use Rattle.program_run.specs.Run.{endBytes, Run, ended, once, followedBy, runOf, runWithin}
 use Rattle.program_run.specs.Written.{Writes, Steps, Runs}
 use Rattle.program_run.proofs.Pieces.{nothing-then, followed-assoc}
@@ -40,12 +41,12 @@ room-for n room h = omega arith
 pub room-lacks : (n room : ℕ) → room / stepMost < n → room < stepMost * n
 room-lacks n room h = omega arith
 
-pub out-full : (w : World) (input output : List ℕ) → length output / stepMost < length input
-    → Runs (runWithin w input (length output)) (record { target = w .target; used = 0; filled = 0; end = Full })
-    (w .mem) (w .regs) output output
+pub out-full : (t : Target) (words mem regs input output : List ℕ) → length output / stepMost < length input
+    → Runs (runWithin (world (viewOf t words) mem regs) input (length output))
+    (record { target = t; used = 0; filled = 0; end = Full }) words mem regs output output
 unfolding ended endBytes
-out-full w input output h =
-    rw (no-room w input (length output) (room-lacks (length input) (length output) h))
+out-full t words mem regs input output h =
+    rw (no-room (world (viewOf t words) mem regs) input (length output) (room-lacks (length input) (length output) h))
     (record { world = refl; used = refl; writes = writes-none output; end = refl })
 
 pub begin : (w : World) (input output : List ℕ) → length input ≤ length output / stepMost
@@ -63,20 +64,23 @@ begin w input output h = record {
       ∙ sym (nothing-then w (runOf w input));
 }
 
-module _ (q : Run) (input before : List ℕ) (w : World) (used filled : ℕ) (after : List ℕ)
-    (g : Going q input before w used filled after) where
+module _ (q : Run) (input before : List ℕ) (t : Target) (words old area : List ℕ) (used filled : ℕ) (after : List ℕ)
+    (g : Going q input before (world (viewOf t words) old area) used filled after) where
+  abbrev w : World
+  w = world (viewOf t words) old area
+
   -- the run ends here
   go-out : (e : End) → runOf w (drop used input) ≡ ended w e → (last : ℕ) (full : List ℕ)
       → Writes (g .done .output ++ endBytes e) last before full
-      → Runs q (record { target = w .target; used = used; filled = last; end = e }) (w .mem) (w .regs) before full
+      → Runs q (record { target = t; used = used; filled = last; end = e }) words old area before full
   unfolding ended followedBy
   go-out e h last full z =
       let x : q ≡ followedBy (g .done) (ended w e) = g .whole ∙ ap (followedBy (g .done)) h in
       record { world = rw x; used = rw (x, g .took, add-zero used); writes = rw x z; end = rw x }
 
   pub out-used-up : length input ≤ used
-      → Runs q (record { target = w .target; used = used; filled = filled; end = UsedUp })
-      (w .mem) (w .regs) before after
+      → Runs q (record { target = t; used = used; filled = filled; end = UsedUp })
+      words old area before after
   unfolding endBytes
   out-used-up h =
       go-out UsedUp (rw (drop-of-length-le input h) (run-none w)) filled after
@@ -90,7 +94,7 @@ module _ (q : Run) (input before : List ℕ) (w : World) (used filled : ℕ) (af
     first-byte = drop-cons input used 0 open-input
 
     pub out-other : listedKind (getD input used 0) ≡ Unlisted
-        → Runs q (record { target = w .target; used = used; filled = filled + 1; end = OtherKind }) (w .mem) (w .regs)
+        → Runs q (record { target = t; used = used; filled = filled + 1; end = OtherKind }) words old area
         before (set after filled 0xff)
     unfolding endBytes
     out-other e =
@@ -109,8 +113,8 @@ module _ (q : Run) (input before : List ℕ) (w : World) (used filled : ℕ) (af
 
     module _ (kind : StepKind) (k : listedKind (getD input used 0) ≡ Listed kind) (n : ℕ) (e : n ≡ bodyOf kind) where
       pub out-cut : length input - (used + 1) < n
-          → Runs q (record { target = w .target; used = used; filled = filled; end = Cut })
-          (w .mem) (w .regs) before after
+          → Runs q (record { target = t; used = used; filled = filled; end = Cut })
+          words old area before after
       unfolding endBytes
       out-cut i =
           go-out Cut
@@ -118,12 +122,12 @@ module _ (q : Run) (input before : List ℕ) (w : World) (used filled : ℕ) (af
           filled after (rw (append-nil (g .done .output)) (g .writes))
 
       -- one step more, in the part of the output that is left
-      module _ (i : n ≤ length input - (used + 1)) (r : Stepped) (mem regs part : List ℕ) where
+      module _ (i : n ≤ length input - (used + 1)) (r : Stepped) (pool mem regs part : List ℕ) where
         abbrev after-step : Outcome
         after-step = stepOn w kind (take (bodyOf kind) left)
 
-        stepped : Steps after-step r mem regs (drop filled after) part → r .filled ≤ stepMost
-            → Going q input before (world (r .target) mem regs) (used + 1 + n) (filled + r .filled)
+        stepped : Steps after-step r pool mem regs (drop filled after) part → r .filled ≤ stepMost
+            → Going q input before (world (viewOf (r .target) pool) mem regs) (used + 1 + n) (filled + r .filled)
             (take filled after ++ part)
         unfolding once followedBy
         stepped s few =
@@ -148,14 +152,14 @@ module _ (q : Run) (input before : List ℕ) (w : World) (used filled : ℕ) (af
                   (sym (followed-assoc (g .done) (first w kind left) _));
             }
 
-        pub go-on : Steps (stepOn w kind (take (used + 1 + n - (used + 1)) (drop (used + 1) input))) r mem regs
+        pub go-on : Steps (stepOn w kind (take (used + 1 + n - (used + 1)) (drop (used + 1) input))) r pool mem regs
             (take (length after - filled) (drop filled after)) part
-            → Going q input before (world (r .target) mem regs) (used + 1 + n) (filled + r .filled)
+            → Going q input before (world (viewOf (r .target) pool) mem regs) (used + 1 + n) (filled + r .filled)
             (take filled after ++ (part ++ drop (length after - filled) (drop filled after)))
         go-on s =
             let back : used + 1 + n - (used + 1) ≡ n = omega arith in
             let past : length (drop filled after) ≤ length after - filled = simp length-drop (omega arith) in
-            let z : Steps after-step r mem regs (drop filled after) part =
+            let z : Steps after-step r pool mem regs (drop filled after) part =
             rw (back, e, add-one used, part-to-end after filled (length after) refl) at s in
             rw (drop-of-length-le (drop filled after) past, append-nil part)
-            (stepped z (steps-few w kind _ r mem regs _ part s))
+            (stepped z (steps-few w kind _ r pool mem regs _ part s))

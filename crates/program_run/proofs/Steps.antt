@@ -1,29 +1,28 @@
 -- Laws of one step: what each kind encodes, and what it shows. Assumes nothing.
-use mathlib.Core.Path.{_≡_, refl, ap, _∙_}
-use mathlib.Core.List.{List, _++_}
-use Prim.Native.Nat.{ℕ, _+_, _-_, _≤_}
+use mathlib.Core.Path.{_≡_, refl, sym, ap, _∙_}
+use mathlib.Core.List.{List, [], _++_}
+use Prim.Native.Nat.{ℕ, _+_, _≤_}
 use native.Mathlib.Omega.{arith}
 use borrow.Author.Tests.{eqb-true}
 use lib.Dec.{eqb}
-use lib.ListN.{length, take, drop, getD, replicate, length-append}
+use lib.ListN.{length, drop, getD, replicate, length-append}
 use Rattle.target.specs.Limits.{blockSize}
 use Rattle.common.specs.Bytes.{wordAt}
 use Rattle.common.proofs.Cases.{on-test}
-use Rattle.common.proofs.Lists.{part-to-end}
 use Rattle.memory.specs.Head.{house}
-use Rattle.rules.specs.Outcome.{World, world, Outcome, outcome, answerBytes}
-use Rattle.rules.specs.Claims.{RightReply}
-use Rattle.rules.proofs.Replies.{replies}
-use Rattle.rules.specs.Step.{requestOf, trapOf, scheduleOf, stateOf, restartOf}
+use Rattle.rules.specs.Outcome.{World, world, Outcome, outcome, refused, answerBytes, shownWith, shown}
+use Rattle.rules.specs.Claims.{NoReply, RightReply}
+use Rattle.rules.proofs.Replies.{Checked, held, passed, trap-checked, schedule-checked, state-checked, replies}
 use Rattle.rules.specs.Step.{Step, request, trapEvent, scheduleEvent, stateEvent, restartStep, stepOf}
 use Rattle.rules.specs.declared.Answer.{Answer}
 use Rattle.rules.specs.declared.Answer.the-variants.{Nothing, Stop, Pass, Yes, No}
-use Rattle.target.specs.declared.Target.{Target}
+use Rattle.target.specs.declared.Target.{Target as StoredTarget}
+use Rattle.target.specs.View.{Target, viewOf}
+use Rattle.step.specs.Kinds.{leaving, stepBy}
 use Rattle.step.specs.declared.StepKind.{StepKind}
 use Rattle.step.specs.declared.StepKind.the-variants.{Request, Trap, Schedule, State, Restart}
 use Rattle.program_run.specs.declared.Stepped.{Stepped}
 use Rattle.program_run.specs.Encoding.{messageBytes, pidBytes, answerMost, stepMost, bodyOf, encoded, stepOn}
-use Rattle.rules.specs.Outcome.{shownWith, shown}
 use Rattle.program_run.specs.Written.{Writes, Steps}
 
 -- ---- a step shows fourteen bytes at most
@@ -70,49 +69,53 @@ body-most Schedule = omega arith
 body-most State = omega arith
 body-most Restart = omega arith
 
+-- an event has no reply
+unreplied : {w : World} {x : Outcome} → Checked NoReply w [] x → leaving [] x ≡ x
+unfolding leaving refused
+unreplied (held n h) = refl
+unreplied {x = x} (passed p) = ap (outcome (x .number) (x .answer) (x .after)) (sym (p .none))
+
 -- a body of a kind that is known
 pub length-known : (kind k : StepKind) (body : List ℕ) → length body ≡ bodyOf kind → kind ≡ k → length body ≡ bodyOf k
 length-known kind k body h e = h ∙ ap bodyOf e
 
 module _ (w : World) (kind : StepKind) (body : List ℕ) where
-  pub is-request : kind ≡ Request → requestOf house w body (replicate messageBytes 0) ≡ stepOn w kind body
-  unfolding stepOn encoded stepOf
+  pub is-request : kind ≡ Request → stepBy kind w 0 0 body (replicate messageBytes 0) ≡ stepOn w kind body
+  unfolding stepBy stepOn encoded stepOf
   is-request k = rw k
 
-  pub is-restart : kind ≡ Restart → restartOf house w (replicate messageBytes 0) ≡ stepOn w kind body
-  unfolding stepOn encoded stepOf
+  pub is-restart : kind ≡ Restart → stepBy kind w 0 0 body (replicate messageBytes 0) ≡ stepOn w kind body
+  unfolding stepBy stepOn encoded stepOf
   is-restart k = rw k
 
-  module _ (pid : ℕ) (p : pid ≡ wordAt body 0) where
-    -- the block is the part of the body behind the pid
-    part : take (length body - pidBytes) (drop pidBytes body) ≡ drop pidBytes body
-    part = part-to-end body pidBytes (length body) refl
+  -- an event, with the pid and what stands behind it, and no reply buffer
+  abbrev pub OfEvent : Type 0
+  OfEvent = stepBy kind w (wordAt body 0) (getD body pidBytes 0) (drop pidBytes body) [] ≡ stepOn w kind body
 
-    pub is-trap : kind ≡ Trap
-        → trapOf house w pid (take (length body - pidBytes) (drop pidBytes body)) ≡ stepOn w kind body
-    unfolding stepOn encoded stepOf
-    is-trap k = rw (k, p, part)
+  pub is-trap : kind ≡ Trap → OfEvent
+  unfolding stepBy stepOn encoded stepOf
+  is-trap k = rw k (unreplied (trap-checked house w (wordAt body 0) (drop pidBytes body)))
 
-    pub is-schedule : kind ≡ Schedule
-        → scheduleOf house w pid (take (length body - pidBytes) (drop pidBytes body)) ≡ stepOn w kind body
-    unfolding stepOn encoded stepOf
-    is-schedule k = rw (k, p, part)
+  pub is-schedule : kind ≡ Schedule → OfEvent
+  unfolding stepBy stepOn encoded stepOf
+  is-schedule k = rw k (unreplied (schedule-checked house w (wordAt body 0) (drop pidBytes body)))
 
-    pub is-state : kind ≡ State → stateOf house w pid (getD body pidBytes 0) ≡ stepOn w kind body
-    unfolding stepOn encoded stepOf
-    is-state k = rw (k, p)
+  pub is-state : kind ≡ State → OfEvent
+  unfolding stepBy stepOn encoded stepOf
+  is-state k = rw k (unreplied (state-checked house w (wordAt body 0) (getD body pidBytes 0)))
 
 -- ---- what is written is what the outcome shows
 
-pub steps-few : (w : World) (kind : StepKind) (body : List ℕ) (r : Stepped) (mem regs before after : List ℕ)
-    → Steps (stepOn w kind body) r mem regs before after → r .filled ≤ stepMost
+pub steps-few : (w : World) (kind : StepKind) (body : List ℕ) (r : Stepped) (words mem regs before after : List ℕ)
+    → Steps (stepOn w kind body) r words mem regs before after → r .filled ≤ stepMost
 unfolding stepOn
-steps-few w kind body r mem regs before after s =
+steps-few w kind body r words mem regs before after s =
     omega (arith, s .writes .filled, shown-most (w .target) (w .mem) (encoded kind body (w .regs)))
 
-module _ (o : Outcome) (number : ℕ) (answer : Answer) (r : Stepped) (mem regs before after : List ℕ) where
-  pub steps-shown : (t : Target) (reply : List ℕ) → outcome number answer (world t mem regs) reply ≡ o
+module _ (o : Outcome) (number : ℕ) (answer : Answer) (r : Stepped) (words mem regs before after : List ℕ) where
+  pub steps-shown : (t : StoredTarget) (reply : List ℕ)
+      → outcome number answer (world (viewOf t words) mem regs) reply ≡ o
       → (r .target ≡ t) × Writes (shownWith number (reply ++ answerBytes answer)) (r .filled) before after
-      → Steps o r mem regs before after
+      → Steps o r words mem regs before after
   unfolding shown
   steps-shown t reply e h = record { world = rw (h .0) (ap (λ (x : Outcome). x .after) e); writes = rw (← e) (h .1) }

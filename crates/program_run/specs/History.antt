@@ -9,7 +9,7 @@ use Rattle.rules.specs.Book.{Book, opened, withPlain, fed, realBy, underTrap}
 use Rattle.rules.specs.Step.{Setup, setupBy}
 use Rattle.rules.specs.Claim.{Action, step, change}
 use Rattle.rules.specs.Step.{Step, stepOf}
-use Rattle.target.specs.declared.Target.{Target}
+use Rattle.target.specs.View.{Target}
 
 -- the book, the record and memory between two actions
 pub record Moment : Type 0 where

@@ -1,18 +1,20 @@
-// Runs steps that are encoded as raw bytes, over a record and lent buffers.
+// Runs steps that are encoded as raw bytes, over a record, its pool and lent buffers.
 use rules::Answer;
 use step::StepKind;
 use step_effect::Done;
 use target::Process;
+use target::Table;
 use target::Target;
 ghost use mathlib.Core.Path.{_≡_};
-ghost use Prim.Native.Nat.{_+_, _≤_};
-ghost use mathlib.Core.List.{_++_};
-ghost use lib.ListN.{length, replicate};
-ghost use Rattle.memory.specs.Head.{house};
-ghost use Rattle.rules.specs.Outcome.{world, answerBytes};
-ghost use Rattle.rules.specs.Step.{requestOf, restartOf};
-ghost use Rattle.program_run.specs.Encoding.{messageBytes, answerMost, stepMost, listedKind, bodyOf, stepOn};
-ghost use Rattle.rules.specs.Outcome.{shownWith};
+ghost use Prim.Native.Nat.{_+_, _≤_, _<_};
+ghost use mathlib.Core.List.{[], _++_};
+ghost use lib.ListN.{length, getD, drop, replicate};
+ghost use Rattle.common.specs.Bytes.{wordAt};
+ghost use Rattle.rules.specs.Outcome.{world, answerBytes, shownWith};
+ghost use Rattle.step.specs.Kinds.{stepBy};
+ghost use Rattle.target.specs.View.{viewOf};
+ghost use Rattle.program_run.specs.Encoding.{messageBytes, pidBytes, answerMost, stepMost, listedKind, bodyOf};
+ghost use Rattle.program_run.specs.Encoding.{stepOn};
 ghost use Rattle.program_run.specs.Written.{Writes, Steps, RunLeaves};
 
 // The bytes of a request and of a reply, and of a pid, the most that an answer and a step write, and what another kind
@@ -149,45 +151,64 @@ fn shown(done: Done, reply: &[u8], out: &mut [u8]) -> Stepped
     }
 }
 
-// A request, and its reply written.
-fn request(t: Target, mem: &mut [u8], regs: &mut [u8], body: &[u8], out: &mut [u8]) -> Stepped
+// A request or a restart, and its reply and its answer written.
+fn replied(
+    t: Target,
+    places: &mut [u32; Table::WORDS],
+    mem: &mut [u8],
+    regs: &mut [u8],
+    kind: StepKind,
+    body: &[u8],
+    out: &mut [u8],
+) -> Stepped
     requires { ⌜ stepMost ≤ length (now out) ⌝ }
     ensures { λ r. ⌜ Steps
-        (requestOf house (world t (now (mem .entry)) (now (regs .entry)))
+        (stepBy kind (world (viewOf t (now (places .entry))) (now (mem .entry)) (now (regs .entry))) 0 0
         (now (body .entry)) (replicate messageBytes 0))
-        r (now (mem .exit)) (now (regs .exit)) (now (out .entry)) (now (out .exit)) ⌝ }
+        r (now (places .exit)) (now (mem .exit)) (now (regs .exit)) (now (out .entry)) (now (out .exit)) ⌝ }
 {
     let mut reply: [u8; MESSAGE] = [0; MESSAGE];
-    let done = stub::request(t, mem, regs, body, &mut reply);
+    let done = stub::step(t, places, kind, mem, regs, 0, 0, body, &mut reply);
     shown(done, &reply, out)
 }
 
-// A restart, and its reply written.
-fn restart(t: Target, mem: &mut [u8], regs: &mut [u8], out: &mut [u8]) -> Stepped
-    requires { ⌜ stepMost ≤ length (now out) ⌝ }
+// An event, which has no reply, and its answer written. Behind the pid stands the block, or the state: each kind of
+// event takes what it has.
+fn event(
+    t: Target,
+    places: &mut [u32; Table::WORDS],
+    mem: &mut [u8],
+    regs: &mut [u8],
+    kind: StepKind,
+    body: &[u8],
+    out: &mut [u8],
+) -> Stepped
+    requires { ⌜ (pidBytes < length (now body)) × (stepMost ≤ length (now out)) ⌝ }
     ensures { λ r. ⌜ Steps
-        (restartOf house (world t (now (mem .entry)) (now (regs .entry))) (replicate messageBytes 0))
-        r (now (mem .exit)) (now (regs .exit)) (now (out .entry)) (now (out .exit)) ⌝ }
+        (stepBy kind (world (viewOf t (now (places .entry))) (now (mem .entry)) (now (regs .entry)))
+        (wordAt (now (body .entry)) 0) (getD (now (body .entry)) pidBytes 0) (drop pidBytes (now (body .entry))) [])
+        r (now (places .exit)) (now (mem .exit)) (now (regs .exit)) (now (out .entry)) (now (out .exit)) ⌝ }
 {
-    let mut reply: [u8; MESSAGE] = [0; MESSAGE];
-    let done = stub::restart(t, mem, regs, &mut reply);
-    shown(done, &reply, out)
-}
-
-// An event, which has no reply, and its answer written.
-fn event(done: Done, out: &mut [u8]) -> Stepped
-    requires { ⌜ stepMost ≤ length (now out) ⌝ }
-    ensures { λ r. ⌜ (r .target ≡ done .target)
-        × Writes (shownWith (done .number) (answerBytes (done .answer))) (r .filled)
-        (now (out .entry)) (now (out .exit)) ⌝ }
-{
-    let none = [0u8; 1];
+    let mut none = [0u8; 1];
+    let pid = common::word_at(body, 0);
+    let done = stub::step(
+        t,
+        places,
+        kind,
+        mem,
+        regs,
+        pid,
+        body[PID],
+        &body[PID..],
+        &mut none[..0],
+    );
     shown(done, &none[..0], out)
 }
 
 // One step, and what it writes.
 fn step(
     t: Target,
+    places: &mut [u32; Table::WORDS],
     mem: &mut [u8],
     regs: &mut [u8],
     kind: StepKind,
@@ -196,27 +217,16 @@ fn step(
 ) -> Stepped
     requires { ⌜ (length (now body) ≡ bodyOf kind) × (stepMost ≤ length (now out)) ⌝ }
     ensures { λ r. ⌜ Steps
-        (stepOn (world t (now (mem .entry)) (now (regs .entry))) kind (now (body .entry)))
-        r (now (mem .exit)) (now (regs .exit)) (now (out .entry)) (now (out .exit)) ⌝ }
+        (stepOn (world (viewOf t (now (places .entry))) (now (mem .entry)) (now (regs .entry))) kind
+        (now (body .entry)))
+        r (now (places .exit)) (now (mem .exit)) (now (regs .exit)) (now (out .entry)) (now (out .exit)) ⌝ }
 {
     match kind {
-        StepKind::Request => request(t, mem, regs, body, out),
-        StepKind::Trap => {
-            let pid = common::word_at(body, 0);
-            let done = stub::trap(t, mem, regs, pid, &body[PID..]);
-            event(done, out)
-        }
-        StepKind::Schedule => {
-            let pid = common::word_at(body, 0);
-            let done = stub::schedule(t, mem, regs, pid, &body[PID..]);
-            event(done, out)
-        }
-        StepKind::State => {
-            let pid = common::word_at(body, 0);
-            let done = stub::state(t, mem, regs, pid, body[PID]);
-            event(done, out)
-        }
-        StepKind::Restart => restart(t, mem, regs, out),
+        StepKind::Request => replied(t, places, mem, regs, kind, body, out),
+        StepKind::Trap => event(t, places, mem, regs, kind, body, out),
+        StepKind::Schedule => event(t, places, mem, regs, kind, body, out),
+        StepKind::State => event(t, places, mem, regs, kind, body, out),
+        StepKind::Restart => replied(t, places, mem, regs, kind, body, out),
     }
 }
 
@@ -234,10 +244,17 @@ fn ended(target: Target, used: usize, filled: usize, end: End) -> Ran
 // Runs the steps of the input, one after the other, until it is used up or ends inside a step, or another kind comes.
 // With less output than fourteen bytes for each byte of input it takes no step, so that it never stops halfway for want
 // of room.
-pub fn run(t: Target, mem: &mut [u8], regs: &mut [u8], input: &[u8], output: &mut [u8]) -> Ran
+pub fn run(
+    t: Target,
+    places: &mut [u32; Table::WORDS],
+    mem: &mut [u8],
+    regs: &mut [u8],
+    input: &[u8],
+    output: &mut [u8],
+) -> Ran
     ensures { λ r. ⌜ RunLeaves
-        (world t (now (mem .entry)) (now (regs .entry))) (now (input .entry))
-        r (now (mem .exit)) (now (regs .exit)) (now (output .entry)) (now (output .exit)) ⌝ }
+        (world (viewOf t (now (places .entry))) (now (mem .entry)) (now (regs .entry))) (now (input .entry))
+        r (now (places .exit)) (now (mem .exit)) (now (regs .exit)) (now (output .entry)) (now (output .exit)) ⌝ }
 {
     if output.len() / STEP_MOST < input.len() {
         return ended(t, 0, 0, End::Full);
@@ -258,6 +275,7 @@ pub fn run(t: Target, mem: &mut [u8], regs: &mut [u8], input: &[u8], output: &mu
         }
         let done = step(
             u,
+            places,
             mem,
             regs,
             kind,

@@ -15,6 +15,7 @@ pub mod KeptDraft
 pub mod KeptTable
 pub mod KeptWorld
 pub mod Kept
+pub mod Counted
 pub mod Agree
 pub mod Breakpoints
 pub mod Laid
@@ -25,4 +26,5 @@ pub mod AfterStep
 pub mod PlainReads
 pub mod Traps
 pub mod Shut
+pub mod PlacesShut
 pub mod Theorem

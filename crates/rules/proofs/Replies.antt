@@ -12,6 +12,7 @@ use Rattle.common.proofs.Cases.{on-test}
 use Rattle.common.proofs.Same.{and-left, and-right}
 use Rattle.target_fit.specs.Fit.{fitOf}
 use Rattle.memory.specs.Head.{Head}
+use Rattle.request_parse.specs.Request.{parseOf}
 use Rattle.target.specs.View.{Target}
 use Rattle.wire.specs.Message.{isMessage, typeOf}
 use Rattle.wire.specs.declared.Message.{Message}
@@ -24,7 +25,7 @@ use Rattle.rules.specs.declared.Answer.the-variants.{Nothing}
 use Rattle.rules.specs.Claims.{Reply, NoReply, RightReply, requestNumber}
 use Rattle.rules.specs.Outcome.{World, Outcome, repliedWith, error, refused, answered}
 use Rattle.rules.specs.Condition.{dropped}
-use Rattle.rules.specs.Request.{drops}
+use Rattle.rules.specs.Request.{drops, requestBy}
 use Rattle.rules.specs.Event.{restart}
 use Rattle.rules.specs.Step.{sized, checked, requestOf, trapOf, scheduleOf, stateOf, restartOf}
 use Rattle.rules.specs.Step.{Step, request, trapEvent, scheduleEvent, stateEvent, restartStep, stepOf}
@@ -107,6 +108,11 @@ replies head t mem (scheduleEvent regs pid block) e = let-pass NoReply (schedule
 replies head t mem (stateEvent regs pid value) e = let-pass NoReply (state-checked head _ pid value) e
 replies head t mem (restartStep regs reply) e = let-pass Reply (restart-checked head _ reply) e
 
+-- a request of ten bytes has number 0
+pub asked-number : (head : Head) (w : World) (bytes reply : List ℕ) → eqb (length bytes) 10 ≡ true
+    → requestBy head (parseOf bytes) w bytes reply .number ≡ 0
+asked-number head w bytes reply ten = served-reply (handled-of (request-of head w bytes reply ten)) .number
+
 -- the number of every request: 2 and 3 come first, then there is only 0
 pub numbers : (head : Head) (w : World) (bytes reply : List ℕ)
     → requestOf head w bytes reply .number ≡ requestNumber head w bytes reply
@@ -115,5 +121,5 @@ numbers head w bytes reply =
     on-test (sized w && (eqb (length bytes) 10 && eqb (length reply) 10))
     (λ e. let ten : eqb (length bytes) 10 ≡ true = search (and-left, and-right) in
     rw e (on-test (fitOf head (w .target) (w .mem))
-    (λ f. rw f (served-reply (handled-of (request-of head w bytes reply ten)) .number)) (λ f. rw f)))
+    (λ f. rw f (asked-number head w bytes reply ten)) (λ f. rw f)))
     (λ e. rw e)

@@ -1,7 +1,8 @@
 -- Demand 3, over any head: over every list of steps after an accepted setup, real memory and every answer are the
 -- book's. The relation (Agree.antt) holds after setup, and every step and every outside change keeps it; what is
 -- claimed follows from it.
-use mathlib.Core.Path.{_≡_, refl, _∙_}
+use mathlib.Core.Path.{_≡_, refl, sym, _∙_}
+use native.Mathlib.Omega.{arith}
 use mathlib.Core.Bool.{true, false}
 use mathlib.Core.List.{List, [], _∷_}
 use mathlib.Core.Option.{none}
@@ -21,7 +22,15 @@ use Rattle.rules.specs.Book.{Book, inWindow, readBy, startBy, opened, wi
 use Rattle.rules.specs.Step.{Setup, setupBy, isAccepted}
 use Rattle.rules.specs.Claim.{stubOf, Says, Right, Action, step, change, Claim, Demand3}
 use Rattle.rules.proofs.Facts.{Good}
-use Rattle.rules.proofs.FitFacts.{facts-of}
+use Rattle.rules.proofs.FitFacts.{facts-of, fit-facts}
+use Rattle.condition.proofs.Depth.{formed-few, begun-few}
+use Rattle.target_fit.specs.Fit.{fitOf, entryAt}
+use Rattle.rules.specs.Claims.{FitPlaces}
+use Rattle.rules.specs.Places.{Count, noneHeld, counted, HoldsCount, PlacesHeld, ruledPlaces}
+use Rattle.rules.proofs.Counted.{Counts, counts-fresh, counts-step}
+use Rattle.rules.proofs.KeptDraft.{hand-of}
+use Rattle.rules.proofs.Places.{places-used, hand-held}
+use Rattle.rules.proofs.PlacesShut.{given-back, refused-uncounted}
 use Rattle.rules.proofs.Outcomes.{SetUp, taken, emptied, set-up}
 use Rattle.rules.proofs.Kept.{good-setup, good-kept, good-change, never-three}
 use Rattle.rules.proofs.Agree.{Follows, Agree}
@@ -145,6 +154,60 @@ claimed (change i byte ∷ es) s b t mem a =
 pub demand3 : (head : Head) → Demand3 head (stubOf (stepOf head))
 demand3 head s h es = claimed es s (opened s) (setupBy s .after .target) (s .mem) (agree-setup s head h)
 
+-- ---- 02, Seven
+
+-- the places held are the history's, wherever the record agrees with the book and with the count
+held-all : {head : Head} (es : List Action) (s : Setup) (b : Book) (y : Count) (t : Target) (mem : List ℕ)
+    → Agree head s b t mem → Counts (t .table) y
+    → HoldsCount s (stubOf (stepOf head)) ruledPlaces b y t mem es
+unfolding HoldsCount
+held-all [] s b y t mem a c = sym (c .held)
+held-all {head} (step e ∷ es) s b y t mem a c =
+    let o = stepOf head t mem e in
+    held-all es s (fed s b e (o .number) (o .answer) (o .reply)) (counted y e (o .number) (o .reply)) (o .after .target)
+    (o .after .mem) (record { good = good-kept t mem e (a .good); follows = after-step s b t mem a e })
+    (counts-step t mem y (a .good) c e)
+held-all (change i byte ∷ es) s b y t mem a c =
+    λ e. held-all es s (withPlain b (set (b .plain) i byte)) y t (set mem i byte) (agree-change s b t mem i byte a e) c
+
+-- a setup leaves a fresh table
+counts-taken : {s : Setup} {o : Outcome}
+    → SetUp (s .base) (s .size) (s .pids) (s .addresses) (s .count) (s .mem) (s .regs) o
+    → Counts (o .after .target .table) noneHeld
+unfolding answered setupTarget
+counts-taken (taken e f z) = counts-fresh
+counts-taken (emptied n h) = counts-fresh
+
+counts-setup : (s : Setup) → Counts (setupBy s .after .target .table) noneHeld
+unfolding setupBy
+counts-setup s = counts-taken {s = s} (set-up (s .base) (s .size) (s .pids) (s .addresses) (s .count) (s .mem) (s .regs))
+
+pub places : (head : Head) → PlacesHeld (stubOf (stepOf head)) ruledPlaces
+places head s h es =
+    held-all es s (opened s) noneHeld (setupBy s .after .target) (s .mem) (agree-setup s head h) (counts-setup s)
+
+-- a fit record holds as many places as it has elements
+pub fit-places : (head : Head) (t : Target) (mem : List ℕ) → fitOf head t mem ≡ true → FitPlaces (t .table)
+fit-places head t mem e =
+    let f = fit-facts {head = head} t mem e in
+    record {
+      whole = λ k l u. f .used k (l, u) .whole ∙ sym (places-used _ u);
+      few = λ k l u. omega (
+        arith,
+        formed-few _ (f .used k (l, u) .formed),
+        f .used k (l, u) .whole,
+        places-used (entryAt (t .table .entries) k) u,
+      );
+      handWhole = λ n. hand-of _ _ (f .draft) n .whole ∙ sym (hand-held _ n);
+      handFew = λ n. omega (
+        arith,
+        begun-few _ (hand-of _ _ (f .draft) n .begun),
+        hand-of _ _ (f .draft) n .whole,
+        hand-held (t .table .draft) n,
+      );
+      all = f .held;
+    }
+
 -- ---- every end statement
 
 pub claims : Claims
@@ -159,4 +222,8 @@ claims = record {
   worked = worked;
   demand3 = demand3;
   stubs = stubs;
+  places = places;
+  givenBack = given-back;
+  refusedUncounted = refused-uncounted;
+  fitPlaces = fit-places;
 }

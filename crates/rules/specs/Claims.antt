@@ -3,15 +3,17 @@
 use mathlib.Core.Path.{_≡_}
 use mathlib.Core.Bool.{Bool, true, false, cond, _&&_}
 use mathlib.Core.List.{List, [], _∷_, map}
-use Prim.Native.Nat.{ℕ}
+use Prim.Native.Nat.{ℕ, _<_, _≤_}
 use lib.Dec.{eqb}
 use lib.ListN.{length}
 use Rattle.common.specs.Numbers.{accepted, wrongSize, notFit}
 use Rattle.memory.specs.Head.{Head, house}
 use Rattle.request_parse.specs.Exact.{Exact}
 use Rattle.target.specs.Fresh.{emptyTarget}
-use Rattle.target.specs.View.{Target}
-use Rattle.target_fit.specs.Fit.{fitOf}
+use Rattle.target.specs.View.{Table, Target}
+use Rattle.target_fit.specs.Fit.{fitOf, entryAt, placesOf, draftHeld, heldOf}
+use Rattle.target.specs.Free.{isFree}
+use Rattle.target.specs.Limits.{maxEntries, maxElements, maxPlaces}
 use Rattle.wire.specs.Message.{isMessage, bytesOf}
 use Rattle.wire.specs.declared.Message.{Message}
 use Rattle.wire_laws.specs.Claims.{Messages}
@@ -23,6 +25,7 @@ use Rattle.rules.specs.Request.{drops}
 use Rattle.rules.specs.Step.{Setup, setupBy, sized, requestOf, Step, regsOf, bufferOf, isRefused, stepOf}
 use Rattle.rules.specs.Step.{request, trapEvent, scheduleEvent, stateEvent, restartStep}
 use Rattle.rules.specs.Claim.{stubOf, rulesStub, Demand3}
+use Rattle.rules.specs.Places.{PlacesHeld, ruledPlaces, countingStub, ownPlaces, neverGivesBack, countsRefused}
 use Rattle.rules.specs.Worked.{workedSetup, after, workedRows}
 use Rattle.rules.specs.Stubs.{StubRow, actsOf, SaysRow, stubRows}
 
@@ -103,6 +106,21 @@ pub record ShutOut (x : StubRow) : Type 0 where
   pub row : SaysRow x → ⊥
   pub claim : Demand3 house (stubOf (actsOf x)) → ⊥
 
+-- ---- 02, Seven: "In a fit record the places held are those of its elements, each of one element only"; where a
+-- condition's places are, and that none is of two, is said of the record of the code (`pool`, specs/Claims)
+
+pub record FitPlaces (u : Table) : Type 0 where
+  -- a breakpoint has as many elements as it holds places, 64 at most
+  pub whole : (k : ℕ) → k < maxEntries → isFree (entryAt (u .entries) k) ≡ false
+      → length (entryAt (u .entries) k .elements) ≡ placesOf (entryAt (u .entries) k)
+  pub few : (k : ℕ) → k < maxEntries → isFree (entryAt (u .entries) k) ≡ false
+      → placesOf (entryAt (u .entries) k) ≤ maxElements
+  -- and so has the condition in hand
+  pub handWhole : eqb (u .draft .active) 0 ≡ false → length (u .draft .elements) ≡ draftHeld (u .draft)
+  pub handFew : eqb (u .draft .active) 0 ≡ false → draftHeld (u .draft) ≤ maxElements
+  -- all together 128 at most
+  pub all : heldOf u ≤ maxPlaces
+
 infixr 5 _&_
 pub data AllShut : List StubRow → Type 0 where
   none : AllShut []
@@ -130,3 +148,9 @@ pub record Claims : Type 0 where
   pub demand3 : (h : Head) → Demand3 h (rulesStub h)
   -- and of no stub of the table: each row's part of the claim is false where the row says
   pub stubs : (r : Reason) → AllShut (stubRows r)
+  -- 02, Seven: the places held, of the rules' steps
+  pub places : (h : Head) → PlacesHeld (rulesStub h) ruledPlaces
+  -- and of no stub that never gives a place back, or that counts a refused element
+  pub givenBack : PlacesHeld (countingStub neverGivesBack) ownPlaces → ⊥
+  pub refusedUncounted : PlacesHeld (countingStub countsRefused) ownPlaces → ⊥
+  pub fitPlaces : (h : Head) (t : Target) (mem : List ℕ) → fitOf h t mem ≡ true → FitPlaces (t .table)

@@ -7,6 +7,7 @@ pub mod Event
 pub mod Step
 pub mod Book
 pub mod Claim
+pub mod Places
 pub mod Worked
 pub mod Stubs
 pub mod Claims

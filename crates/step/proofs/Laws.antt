@@ -9,7 +9,6 @@ use borrow.Author.Tests.{eq-eqb, eqb-true, not-true, not-false}
 use lib.ListN.{length}
 use Rattle.common.proofs.Cases.{on-test}
 use Rattle.common.proofs.Same.{parts}
-use Rattle.event.proofs.Laws.{effect}
 use Rattle.target_fit.specs.Fit.{fitOf, scanOf}
 use Rattle.target_fit.specs.declared.Scan.{Scan}
 use Rattle.target_fit.proofs.Laws.{answered-yes, answered-no, scan-fit, scan-is}
@@ -17,20 +16,23 @@ use Rattle.memory.specs.Head.{house}
 use Rattle.memory.specs.Overlay.{plainOf}
 use Rattle.request_parse.specs.Request.{parseOf}
 use Rattle.request_parse.specs.declared.Parsed.{Parsed}
-use Rattle.step_effect.specs.Change.{applied}
+use Rattle.step_effect.specs.Change.{stored}
 use Rattle.rules.specs.Event.{trap, schedule, state, restart}
-use Rattle.rules.specs.Outcome.{World, Outcome, refused, repliedWith}
-use Rattle.step_effect.specs.Ready.{Ready, ReadyAll, servedOutcome, effectOutcome}
+use Rattle.rules.specs.Outcome.{World, world, Outcome, refused, repliedWith}
+use Rattle.step_effect.specs.Effect.{effectOf, effectOutcome, requestOutcome}
+use Rattle.step_effect.specs.Ready.{Ready, ReadyAll, Arrays}
 use Rattle.rules.specs.Request.{requestBy}
+use Rattle.rules.proofs.Replies.{asked-number}
 use Rattle.rules.specs.Step.{sized, checked, requestOf, trapOf, scheduleOf, stateOf, restartOf}
 use Rattle.rules.specs.declared.Answer.the-variants.{Nothing}
 use Rattle.step_effect.specs.declared.Change.the-variants.{Restart}
 use Rattle.step_effect.specs.declared.Effect.{Effect}
-use Rattle.step_effect.specs.declared.Served.{Served}
 use Rattle.step.specs.Kinds.{leaving, lentRight, stepBy}
 use Rattle.step.specs.declared.StepKind.{StepKind}
 use Rattle.step.specs.declared.StepKind.the-variants as step
+use Rattle.target.specs.View.{elementsOf, viewOf}
 use Rattle.target.specs.declared.Target.{Target}
+use Rattle.target.proofs.View.{view-new}
 use Rattle.wire.specs.Message.{bytesOf}
 use Rattle.wire.specs.declared.Message.the-variants.{Rerr}
 use Rattle.wire_text.specs.declared.Reason.the-variants.{Reset}
@@ -56,7 +58,7 @@ module _ (kind : StepKind) (input reply : ℕ) (e : lentRight kind input reply �
 
 -- past the tests, the record is fit and its buffers have their sizes
 pub ready-by : (w : World) (b : Bool) → b ≡ sized w → not b ≡ false
-    → (s : Scan) → s ≡ scanOf (fitOf house (w .target) (w .mem)) (w .target .base) (w .target .table .entries)
+    → (s : Scan) → s ≡ scanOf (fitOf house (w .target) (w .mem)) (w .target .base) (w .target .table)
     → not (s .fit) ≡ false
     → ReadyAll house (w .target) s (w .mem) (w .regs)
 unfolding sized scanOf
@@ -67,6 +69,8 @@ ready-by w b e h s f g =
     let table : Ready house (w .target) s (w .mem) =
     record {
       fit = fit;
+      held = ap (λ (x : Scan). x .held) whole;
+      depth = ap (λ (x : Scan). x .depth) whole;
       ids = ap (λ (x : Scan). x .ids) whole;
       sites = ap (λ (x : Scan). x .sites) whole;
       plain = ap (λ (x : Scan). x .plain) whole;
@@ -121,7 +125,7 @@ module _ (kind : StepKind) (w : World) (pid value : ℕ) (input reply : List ℕ
   module _ (lent : lentRight kind (length input) (length reply) ≡ true) where
     -- the record is not fit
     pub unfit : (b : Bool) → b ≡ sized w → not b ≡ false
-        → (s : Scan) → s ≡ scanOf (fitOf house (w .target) (w .mem)) (w .target .base) (w .target .table .entries)
+        → (s : Scan) → s ≡ scanOf (fitOf house (w .target) (w .mem)) (w .target .base) (w .target .table)
         → not (s .fit) ≡ true
         → refused 3 w reply ≡ stepBy kind w pid value input reply
     unfolding checked
@@ -136,30 +140,46 @@ module _ (kind : StepKind) (w : World) (pid value : ℕ) (input reply : List ℕ
       taken k e = rw (← e) (rw (eq-eqb _ _ (ok .0 .memory), eq-eqb _ _ (ok .1), lent, ok .0 .fit) at tested)
 
 -- an event's change, with the reply as it was
-pub leaves : (t : Target) (d : Effect) (mem regs reply : List ℕ) (o : Outcome) → effectOutcome t d mem regs [] ≡ o
-    → effectOutcome t d mem regs reply ≡ leaving reply o
+pub leaves : (t : Target) (d : Effect) (words mem regs reply : List ℕ) (o : Outcome)
+    → effectOutcome t d words mem regs [] ≡ o → effectOutcome t d words mem regs reply ≡ leaving reply o
 unfolding leaving
-leaves t d mem regs reply o e = ap (leaving reply) e
+leaves t d words mem regs reply o e = ap (leaving reply) e
 
 -- ---- a restart
 
-pub restart-as : (w : World) (s : Scan) → Ready house (w .target) s (w .mem)
-    → (d : Effect) (mem reply : List ℕ)
-    → d ≡ effect 0 Nothing Restart → mem ≡ plainOf 2 (s .sites) (s .plain) (w .mem) → reply ≡ bytesOf (Rerr Reset)
-    → effectOutcome (w .target) d mem (w .regs) reply ≡ restart w
-unfolding restart repliedWith applied
-restart-as w s ok d mem reply q m r = rw (q, m, ok .sites, ok .plain, r)
+module _ (t : Target) (words old regs : List ℕ) (s : Scan) (ok : Arrays (viewOf t words) s) (d : Effect) where
+  pub restart-as : (plain mem reply : List ℕ) → d ≡ effectOf 0 Nothing Restart plain (bytesOf (Rerr Reset))
+      → mem ≡ plainOf 2 (s .sites) (s .plain) old → reply ≡ bytesOf (Rerr Reset)
+      → effectOutcome t d words mem regs reply ≡ restart (world (viewOf t words) old regs)
+  unfolding restart repliedWith stored
+  restart-as plain mem reply q m r = rw (q, view-new (elementsOf words), m, ok .sites, ok .plain, r)
+
+  -- it has number 0
+  pub restart-number : (mem reply : List ℕ)
+      → effectOutcome t d words mem regs reply ≡ restart (world (viewOf t words) old regs) → d .number ≡ 0
+  unfolding restart repliedWith
+  restart-number mem reply e = ap (λ (x : Outcome). x .number) e
 
 -- ---- a request
 
 -- what an accepted request gives back
-pub accepts : (t : Target) (s : Served) (d : Effect) (reply mem regs : List ℕ)
-    → (d ≡ record { number = 0; answer = s .answer; change = s .change; plain = s .plain }) × (reply ≡ s .bytes)
-    → effectOutcome t d mem regs reply ≡ servedOutcome t s mem regs
-accepts t s d reply mem regs e = rw (e .0, e .1)
+pub accepts : (t : Target) (e d : Effect) (words reply mem regs : List ℕ) → (d ≡ e) × (reply ≡ e .reply)
+    → effectOutcome t d words mem regs reply ≡ requestOutcome t e words mem regs
+accepts t e d words reply mem regs q = rw (q .0, q .1)
 
 -- by what its bytes ask
 pub asked : (w : World) (l reply : List ℕ) (p : Parsed) → p ≡ parseOf l → (o : Outcome)
     → o ≡ requestBy house p w l reply
     → o ≡ requestBy house (parseOf l) w l reply
 asked w l reply p e o q = q ∙ ap (λ (x : Parsed). requestBy house x w l reply) e
+
+-- it has number 0
+pub request-number : (t : Target) (w : World) (d : Effect) (words mem regs reply l old : List ℕ) → length l ≡ 10
+    → effectOutcome t d words mem regs reply ≡ requestBy house (parseOf l) w l old → d .number ≡ 0
+request-number t w d words mem regs reply l old z e =
+    ap (λ (x : Outcome). x .number) e ∙ asked-number house w l old (eq-eqb (length l) 10 z)
+
+-- ---- a step that has number 0 says nothing of one that has another
+
+pub accepted-any : {A : Type 0} (d : Effect) → d .number ≡ 0 → (d .number ≡ 0 → ⊥) → A
+accepted-any d z h = absurd (h z)

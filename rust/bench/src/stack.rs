@@ -4,6 +4,7 @@
 use crate::cases::Case;
 use crate::proved::Caller;
 use sanirvoq::call::{Kind, Lent};
+use sanirvoq::ffi;
 use std::arch::asm;
 
 /// Far more than a step needs: past its end nothing would stop a write.
@@ -29,43 +30,41 @@ impl Default for Painted {
 }
 
 impl Painted {
-    /// Calls the function of the steps' form that is there. Answers its result and the bytes that it used, from its
-    /// return address down to the deepest byte that was written.
+    /// Calls the step that is there. Answers its result and the bytes that it used, from its return
+    /// address down to the deepest byte that was written.
     ///
     /// # Safety
     /// What the function asks of its arguments; and it keeps to the room of this stack.
-    unsafe fn measure(&mut self, function: *const (), lent: Lent<'_>) -> (u32, usize) {
-        let Lent { record, memory, registers, pid, value, input, reply } = lent;
+    unsafe fn measure(&mut self, function: *const (), arguments: &[usize]) -> (u32, usize) {
+        let (first, rest) = arguments.split_at(6);
         self.lines.fill(Line([PAINT; 16]));
-        let top = self.lines.as_mut_ptr_range().end;
-        let (from, to) =
-            (input.as_ptr().expose_provenance(), reply.as_mut_ptr().expose_provenance());
-        let pushed = [usize::from(value), from, input.len(), to, reply.len()];
+        // The arguments that go by the stack lie from a multiple of 16 on.
+        let below = rest.len().div_ceil(2);
+        let from = ROOM / 16 - below;
+        let words: Vec<usize> = rest.iter().copied().chain([0; 1]).take(2 * below).collect();
+        for (line, pair) in self.lines[from..].iter_mut().zip(words.chunks(2)) {
+            line.0[..8].copy_from_slice(&pair[0].to_ne_bytes());
+            line.0[8..].copy_from_slice(&pair[1].to_ne_bytes());
+        }
+        let top = self.lines[from..].as_mut_ptr();
         let result: u32;
-        // SAFETY: rsp is back before the block ends, and r12, where it waits, is callee-saved. Eight
-        // bytes and five arguments keep rsp a multiple of 16 at the call.
+        // SAFETY: rsp is back before the block ends, and r12, where it waits, is callee-saved. The
+        // top is a multiple of 16.
         unsafe {
             asm!(
                 "mov r12, rsp",
                 "mov rsp, r13",
-                "sub rsp, 8",
-                "push qword ptr [r14 + 32]",
-                "push qword ptr [r14 + 24]",
-                "push qword ptr [r14 + 16]",
-                "push qword ptr [r14 + 8]",
-                "push qword ptr [r14]",
                 "call r15",
                 "mov rsp, r12",
                 out("r12") _,
                 in("r13") top,
-                in("r14") pushed.as_ptr(),
                 in("r15") function,
-                in("rdi") &raw mut *record,
-                in("rsi") memory.as_mut_ptr(),
-                in("rdx") memory.len(),
-                in("rcx") registers.as_mut_ptr(),
-                in("r8") registers.len(),
-                in("r9") u64::from(pid),
+                in("rdi") first[0],
+                in("rsi") first[1],
+                in("rdx") first[2],
+                in("rcx") first[3],
+                in("r8") first[4],
+                in("r9") first[5],
                 lateout("eax") result,
                 clobber_abi("sysv64"),
             );
@@ -73,14 +72,33 @@ impl Painted {
         let untouched =
             self.lines.iter().flat_map(|line| line.0).take_while(|&b| b == PAINT).count();
         assert!(untouched > ROOM / 4, "a step came near the end of the painted stack");
-        (result, ROOM - 48 - untouched)
+        (result, 16 * from - untouched)
     }
+}
+
+/// A step's function and its arguments, in their order, as words.
+fn spelled(kind: Kind, lent: Lent<'_>) -> (*const (), Vec<usize>) {
+    let Lent { record, memory, registers, pid, value, input, reply } = lent;
+    let target = (&raw mut record.target).expose_provenance();
+    let (function, mut words) = match kind.function() {
+        Some(step) => {
+            (step as *const (), vec![target, record.places.as_mut_ptr().expose_provenance()])
+        }
+        None => (ffi::sanirvoq_step_setup as *const (), vec![target]),
+    };
+    words.extend([memory.as_mut_ptr().expose_provenance(), memory.len()]);
+    words.extend([registers.as_mut_ptr().expose_provenance(), registers.len()]);
+    words.extend([pid as usize, usize::from(value)]);
+    words.extend([input.as_ptr().expose_provenance(), input.len()]);
+    words.extend([reply.as_mut_ptr().expose_provenance(), reply.len()]);
+    (function, words)
 }
 
 impl Caller for Painted {
     fn call(&mut self, kind: Kind, lent: Lent<'_>) -> u32 {
+        let (function, arguments) = spelled(kind, lent);
         // SAFETY: as in `Lent::call`; what a step needs is far less than the room.
-        let (result, used) = unsafe { self.measure(kind.function() as *const (), lent) };
+        let (result, used) = unsafe { self.measure(function, &arguments) };
         let deepest = &mut self.deepest[kind as usize];
         *deepest = used.max(*deepest);
         result
@@ -124,7 +142,7 @@ mod tests {
 
     /// The arguments from the seventh on: by value, a struct of five words lies as they do.
     #[repr(C)]
-    struct Pushed([usize; 5]);
+    struct Pushed([usize; 6]);
 
     fn fold(first: [usize; 6], pushed: Pushed) -> u32 {
         let all = first.iter().chain(&pushed.0);
@@ -146,11 +164,13 @@ mod tests {
         let (memory, registers) = (&mut [0; 5][..], &mut [0; 11][..]);
         let (input, reply) = (&[0; 23][..], &mut [0; 31][..]);
         let (block, area) = (memory.as_ptr().addr(), registers.as_ptr().addr());
-        let first = [(&raw const *record).addr(), block, 5, area, 11, 13];
-        let pushed = Pushed([17, input.as_ptr().addr(), 23, reply.as_ptr().addr(), 31]);
+        let (target, places) = ((&raw const record.target).addr(), record.places.as_ptr().addr());
+        let first = [target, places, block, 5, area, 11];
+        let pushed = Pushed([13, 17, input.as_ptr().addr(), 23, reply.as_ptr().addr(), 31]);
         let lent = Lent { record, memory, registers, pid: 13, value: 17, input, reply };
+        let (_, arguments) = spelled(Kind::Request, lent);
         // SAFETY: the function's writes are within the stack.
-        let (result, used) = unsafe { painted.measure(function, lent) };
+        let (result, used) = unsafe { painted.measure(function, &arguments) };
         (result, used, fold(first, pushed))
     }
 

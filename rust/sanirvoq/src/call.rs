@@ -54,16 +54,17 @@ impl Kind {
         matches!(self, Self::Request | Self::Restart).then_some(MESSAGE)
     }
 
-    /// Its function. Inlined, so that a call of a constant kind is a direct one.
+    /// Its function; the setup has another form. Inlined, so that a call of a constant kind is a
+    /// direct one.
     #[inline(always)]
-    pub fn function(self) -> ffi::Step {
+    pub fn function(self) -> Option<ffi::Step> {
         match self {
-            Self::Setup => ffi::sanirvoq_step_setup,
-            Self::Request => ffi::sanirvoq_step_request,
-            Self::Trap => ffi::sanirvoq_step_trap,
-            Self::Schedule => ffi::sanirvoq_step_schedule,
-            Self::State => ffi::sanirvoq_step_state,
-            Self::Restart => ffi::sanirvoq_step_restart,
+            Self::Setup => None,
+            Self::Request => Some(ffi::sanirvoq_step_request),
+            Self::Trap => Some(ffi::sanirvoq_step_trap),
+            Self::Schedule => Some(ffi::sanirvoq_step_schedule),
+            Self::State => Some(ffi::sanirvoq_step_state),
+            Self::Restart => Some(ffi::sanirvoq_step_restart),
         }
     }
 }
@@ -94,26 +95,49 @@ impl Lent<'_> {
     /// The step's result: its number in the lowest byte, then the three bytes of its answer.
     #[inline(always)]
     pub fn call(self, kind: Kind) -> u32 {
-        let function = kind.function();
+        let Self { record, memory, registers, pid, value, input, reply } = self;
+        let target = &raw mut record.target;
+        let places = record.places.as_mut_ptr();
+        let (memory, memory_length) = (memory.as_mut_ptr(), memory.len());
+        let (registers, registers_length) = (registers.as_mut_ptr(), registers.len());
+        let (input, input_length) = (input.as_ptr(), input.len());
+        let (reply, reply_length) = (reply.as_mut_ptr(), reply.len());
         // SAFETY: A step asks for pointers that are valid for the lengths given, not null, apart
-        // from each other and left alone by others during the call. Each pointer and its length
-        // come from one reference here; references are never null, and the four `&mut` and the `&`
-        // live until the call returns, so the borrow rules keep them apart and others away. Any
-        // bytes are a record. A step always returns, does not unwind and keeps no pointer.
+        // from each other and left alone by others during the call; places are 256. Each pointer
+        // and its length come from one reference here; references are never null, the target and
+        // the places are two fields of one record, and the four `&mut` and the `&` live until the
+        // call returns, so the borrow rules keep them apart and others away. Any bytes are a
+        // record. A step always returns, does not unwind and keeps no pointer.
         unsafe {
-            function(
-                self.record,
-                self.memory.as_mut_ptr(),
-                self.memory.len(),
-                self.registers.as_mut_ptr(),
-                self.registers.len(),
-                self.pid,
-                self.value,
-                self.input.as_ptr(),
-                self.input.len(),
-                self.reply.as_mut_ptr(),
-                self.reply.len(),
-            )
+            match kind.function() {
+                Some(function) => function(
+                    target,
+                    places,
+                    memory,
+                    memory_length,
+                    registers,
+                    registers_length,
+                    pid,
+                    value,
+                    input,
+                    input_length,
+                    reply,
+                    reply_length,
+                ),
+                None => ffi::sanirvoq_step_setup(
+                    target,
+                    memory,
+                    memory_length,
+                    registers,
+                    registers_length,
+                    pid,
+                    value,
+                    input,
+                    input_length,
+                    reply,
+                    reply_length,
+                ),
+            }
         }
     }
 }

@@ -258,10 +258,10 @@ const _: () = assert!(size_of::<TextWritten>() == 8 && size_of::<TextFound>() ==
 const _: () = assert!(size_of::<Run>() == 2 * size_of::<u32>());
 const _: () = assert!(align_of::<Run>() == align_of::<u32>());
 
-/// The arguments and the result of every step, once.
+/// The arguments and the result of every step but the setup, once.
 macro_rules! steps {
     ($arguments:tt -> $result:ty { $($(#[$doc:meta])* $name:ident),* $(,)? }) => {
-        /// The form of every step; see the header for which arguments each uses.
+        /// The form of every step but the setup; see the header for which arguments each uses.
         pub type Step = unsafe extern "C" fn $arguments -> $result;
 
         unsafe extern "C" {
@@ -271,7 +271,8 @@ macro_rules! steps {
 }
 
 steps!((
-    record: *mut Record,
+    target: *mut Target,
+    places: *mut u32,
     memory: *mut u8,
     memory_length: usize,
     registers: *mut u8,
@@ -283,8 +284,6 @@ steps!((
     reply: *mut u8,
     reply_length: usize,
 ) -> u32 {
-    /// A setup.
-    sanirvoq_step_setup,
     /// A request.
     sanirvoq_step_request,
     /// A trap event.
@@ -298,6 +297,20 @@ steps!((
 });
 
 unsafe extern "C" {
+    /// A setup, which has no places.
+    pub fn sanirvoq_step_setup(
+        target: *mut Target,
+        memory: *mut u8,
+        memory_length: usize,
+        registers: *mut u8,
+        registers_length: usize,
+        pid: u32,
+        value: u8,
+        input: *const u8,
+        input_length: usize,
+        reply: *mut u8,
+        reply_length: usize,
+    ) -> u32;
     /// Writes a message's ten bytes.
     pub fn sanirvoq_write(fields: Fields, buffer: *mut u8, length: usize) -> u8;
     /// Reads ten bytes.

@@ -2,7 +2,8 @@
 -- it (BetweenTurns), what is kept is less than the longest step, and the buffers keep their lengths. The measure is
 -- the number of turns that are left. Assumes nothing.
 use mathlib.Core.Path.{_≡_, sym}
-use Prim.Native.Nat.{_+_, _≤_}
+use Prim.Native.Nat.{_+_, _≤_, _<_}
+use native.Mathlib.Omega.{arith}
 use borrow.Author.Needs.{needs}
 use lib.ListN.{length}
 use lib.Seq.{length-take-le}
@@ -14,12 +15,12 @@ use Rattle.program_io.proofs.serve_all.Statement.{statement}
 use Rattle.program_io.proofs.serve_all.Tie as tie
 
 abbrev Inv-loop : tie.InvT-loop
-Inv-loop mem₀ regs₀ t₀ input₀ output₀ kept₀ turns₀ mem regs t input output kept turns =
-    BetweenTurns t mem regs input kept × (kept ≤ pidBytes + blockSize)
+Inv-loop mem₀ regs₀ t₀ places₀ input₀ output₀ kept₀ turns₀ mem regs t places input output kept turns =
+    BetweenTurns t places mem regs input kept × (kept ≤ pidBytes + blockSize)
     × (length mem ≡ 64) × (length regs ≡ 272) × (length input ≡ 4096) × (length output ≡ 65536)
 
 abbrev μ-loop : tie.MeasureT-loop
-μ-loop mem₀ regs₀ t₀ input₀ output₀ kept₀ turns₀ mem regs t input output kept turns = turns
+μ-loop mem₀ regs₀ t₀ places₀ input₀ output₀ kept₀ turns₀ mem regs t places input output kept turns = turns
 
 start-requires : tie.Need-start-requires Inv-loop μ-loop
 start-requires c κs = search needs
@@ -33,7 +34,7 @@ large-buffer-requires c κs = search needs
 loop-holds : tie.Need-loop-holds Inv-loop μ-loop
 loop-holds c =
     let s = c .before .before .before .before .before in
-    (between-begin _ (s .start .ensures) _, search needs, search needs, search needs, search needs, search needs)
+    (between-begin _ (s .start .ensures) _ _, search needs, search needs, search needs, search needs, search needs)
 
 slice-aggregate-read-behind : tie.Need-slice-aggregate-read-behind Inv-loop μ-loop
 slice-aggregate-read-behind c = search needs
@@ -77,20 +78,29 @@ returns-2 c = search needs
 returns-3 : tie.Need-returns-3 Inv-loop μ-loop
 returns-3 c = search needs
 
+-- where the bytes are read, from the end of the turn: a turn is left
+abbrev read-at : tie.After-t2 Inv-loop μ-loop → tie.After-read-behind Inv-loop μ-loop
+read-at c =
+    let k = c .before .before .before .before .before .before .before .before .before .before in
+    k .before .before .before .before .before .before .before .before
+
+counted : (c : tie.After-t2 Inv-loop μ-loop) → 0 < read-at c .before .before .before .loop .turns
+counted c = omega (arith, read-at c .before .before .loop-test .taken)
+
 sub-turns : tie.Need-sub-turns Inv-loop μ-loop
-sub-turns c = search needs
+sub-turns c = omega (arith, counted c)
 
 loop-less : tie.Need-loop-less Inv-loop μ-loop
-loop-less c = search needs
+loop-less c = omega (arith, counted c)
 
 loop-again : tie.Need-loop-again Inv-loop μ-loop
 loop-again c =
     let k = c .before .before .before .before .before .before .before .before .before .before in
-    let b = k .before .before .before .before .before .before .before in
+    let b = read-at c in
     let o = b .before .before .before .loop in
     let more = is-true _ (c .before .if3 .left) in (
-      between-on _ _ _ _ _ (o .inv .0) _ _ (b .read-behind .ensures .1) _ _ _ _ _ _ (k .turn .ensures) more,
-      kept-few _ _ _ _ _ _ _ _ (k .turn .ensures) more,
+      between-on _ _ _ _ _ _ (o .inv .0) _ _ (b .read-behind .ensures .1) _ _ _ _ _ _ _ (k .turn .ensures) more,
+      kept-few _ _ _ _ _ _ _ _ _ (k .turn .ensures) more,
       search needs,
       search needs,
       search needs,

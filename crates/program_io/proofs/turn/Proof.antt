@@ -11,7 +11,8 @@ slice-reshare-prefix-run : tie.Need-slice-reshare-prefix-run
 slice-reshare-prefix-run c = search needs
 
 slice-aggregate-run : tie.Need-slice-aggregate-run
-slice-aggregate-run c = sym (length-take-le _ _ (c .before .before .before .before .before .before .before .pre .0))
+slice-aggregate-run c =
+    sym (length-take-le _ _ (c .before .before .before .before .before .before .before .before .pre .0))
 
 run-requires : tie.Need-run-requires
 run-requires c κs = search needs
@@ -19,8 +20,8 @@ run-requires c κs = search needs
 move-front-requires : tie.Need-move-front-requires
 move-front-requires c κs =
     let k = c .before .before .before .before .before .before .before .before in
-    let s = k .before .before .before .before .before .before .before .before .before in
-    (turn-used _ _ _ (s .pre .0) _ (s .pre .1) _ _ _ _ (k .run .ensures .run), s .pre .0)
+    let s = k .before .before .before .before .before .before .before .before .before .before in
+    (turn-used _ _ _ (s .pre .0) _ (s .pre .1) _ _ _ _ _ (k .run .ensures .run), s .pre .0)
 
 wants-more-requires : tie.Need-wants-more-requires
 wants-more-requires c κs = search needs
@@ -41,8 +42,8 @@ returns : tie.Need-returns
 returns c =
     let m = c .before .before .before in
     let k = m .before .before .before .before .before .before .before .before .before in
-    let s = k .before .before .before .before .before .before .before .before .before in
-    turn-leaves _ _ _ (s .pre .0) _ (s .pre .1) _ _ _ _ (k .run .ensures .run) _ _
+    let s = k .before .before .before .before .before .before .before .before .before .before in
+    turn-leaves _ _ _ (s .pre .0) _ (s .pre .1) _ _ _ _ _ (k .run .ensures .run) _ _
     (m .move-front .ensures) _ (c .wants-more .ensures)
 
 pub turn-spec : {M : Type 1} → statement M

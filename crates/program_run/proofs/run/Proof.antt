@@ -9,6 +9,7 @@ use borrow.Author.Needs.{needs}
 use lib.ListN.{length, drop, length-take, length-drop, length-set}
 use lib.Seq.{length-take-le}
 use Rattle.rules.specs.Outcome.{world}
+use Rattle.target.specs.View.{viewOf}
 use Rattle.program_run.specs.Encoding.{stepMost}
 use Rattle.program_run.specs.Run.{runWithin}
 use Rattle.program_run.proofs.History.{with-book}
@@ -18,12 +19,13 @@ use Rattle.program_run.proofs.run.Statement.{statement}
 use Rattle.program_run.proofs.run.Tie as tie
 
 abbrev Inv-loop : tie.InvT-loop
-Inv-loop mem₀ regs₀ input output₀ u₀ used₀ filled₀ mem regs output u used filled =
-    Going (runWithin (world u₀ mem₀ regs₀) input (length output₀)) input output₀ (world u mem regs) used filled output
+Inv-loop places₀ mem₀ regs₀ input output₀ u₀ used₀ filled₀ places mem regs output u used filled =
+    Going (runWithin (world (viewOf u₀ places₀) mem₀ regs₀) input (length output₀)) input output₀
+    (world (viewOf u places) mem regs) used filled output
     × (length mem ≡ length mem₀) × (length regs ≡ length regs₀)
 
 abbrev μ-loop : tie.MeasureT-loop
-μ-loop mem₀ regs₀ input output₀ u₀ used₀ filled₀ mem regs output u used filled = length input - used
+μ-loop places₀ mem₀ regs₀ input output₀ u₀ used₀ filled₀ places mem regs output u used filled = length input - used
 
 -- the step is whole, and there is room for it; a length fits
 abbrev most : ℕ
@@ -45,7 +47,8 @@ room c =
 
 -- the place before the step's call, from the end of the turn
 abbrev came : tie.After-struct-known Inv-loop μ-loop → tie.Else2 Inv-loop μ-loop
-came c = c .before .before .before .before .before .before .before .before .before .before .before .before .before
+came c =
+    c .before .before .before .before .before .before .before .before .before .before .before .before .before .before
 
 ended-requires : tie.Need-ended-requires Inv-loop μ-loop
 ended-requires c κs = search needs
@@ -54,7 +57,7 @@ returns : tie.Need-returns Inv-loop μ-loop
 returns c =
     let a = c .before .before .before .before .before .before .args in
     rw (c .ended .ensures)
-    (with-book _ _ _ _ _ _ _ (out-full (world (a .t) (now (a .mem)) (now (a .regs))) _ _ (c .before .if1 .taken)))
+    (with-book _ _ _ _ _ _ _ _ (out-full (a .t) _ _ _ _ _ (c .before .if1 .taken)))
 
 loop-holds : tie.Need-loop-holds Inv-loop μ-loop
 loop-holds c = (begin _ _ _ (c .if1 .left), refl, refl)
@@ -103,7 +106,7 @@ returns-2 c =
     let l = k .before .before in
     let e = sym (k .listed-kind .ensures) ∙ c .before .enum-told .given .1 in
     rw (c .ended2 .ensures)
-    (with-book _ _ _ _ _ _ _ (out-other _ _ _ _ _ _ _ (l .before .loop .inv .0) (l .loop-test .taken) e))
+    (with-book _ _ _ _ _ _ _ _ (out-other _ _ _ _ _ _ _ _ _ _ (l .before .loop .inv .0) (l .loop-test .taken) e))
 
 body-of-requires : tie.Need-body-of-requires Inv-loop μ-loop
 body-of-requires c κs = search needs
@@ -133,8 +136,8 @@ returns-3 c =
     let o = k .before .before .before .loop in
     let e = sym (k .listed-kind .ensures) ∙ b .before .before .byte .given .1 in
     rw (c .ended3 .ensures)
-    (with-book _ _ _ _ _ _ _
-    (out-cut _ _ _ _ _ _ _ (o .inv .0) (k .before .before .loop-test .taken) _ e _ (b .body-of .ensures)
+    (with-book _ _ _ _ _ _ _ _
+    (out-cut _ _ _ _ _ _ _ _ _ _ (o .inv .0) (k .before .before .loop-test .taken) _ e _ (b .body-of .ensures)
     (c .before .if2 .taken)))
 
 add-step : tie.Need-add-step Inv-loop μ-loop
@@ -160,7 +163,7 @@ part-step-end-2 c = search needs
 
 step-requires : tie.Need-step-requires Inv-loop μ-loop
 step-requires c κs =
-    let e = c .before .before .before .before in
+    let e = c .before .before .before .before .before in
     let l = e .before .before .before .before .before .before .before .before in
     let o = l .loop in
     let n = e .before .body-of .result in
@@ -173,8 +176,8 @@ step-requires c κs =
 add-filled : tie.Need-add-filled Inv-loop μ-loop
 add-filled c =
     let k = c .before .before .before .before .before .before .before .before in
-    let e = k .before .before .before .before .before in
-    omega (arith, room e .0, room e .1, steps-few _ _ _ _ _ _ _ _ (k .step .ensures))
+    let e = k .before .before .before .before .before .before in
+    omega (arith, room e .0, room e .1, steps-few _ _ _ _ _ _ _ _ _ (k .step .ensures))
 
 add-used : tie.Need-add-used Inv-loop μ-loop
 add-used c = let h = whole (came c) in omega (arith, h .0, h .1)
@@ -185,13 +188,13 @@ loop-less c = omega (arith, whole (came c) .0)
 loop-again : tie.Need-loop-again Inv-loop μ-loop
 loop-again c =
     let k = c .before .before .before .before .before .before .before .before in
-    let e = k .before .before .before .before .before in
+    let e = k .before .before .before .before .before .before in
     let b = e .before in
     let f = b .before .before .before .before in
     let o = f .before .before .before .loop in (
-      go-on _ _ _ _ _ _ _ (o .inv .0) (f .before .before .loop-test .taken) _
+      go-on _ _ _ _ _ _ _ _ _ _ (o .inv .0) (f .before .before .loop-test .taken) _
           (sym (f .listed-kind .ensures) ∙ b .before .before .byte .given .1) _ (b .body-of .ensures)
-          (omega (arith, whole e .0)) _ _ _ _ (k .step .ensures),
+          (omega (arith, whole e .0)) _ _ _ _ _ (k .step .ensures),
       c .before .before .before .before .before .before .before .mem .given ∙ o .inv .1,
       c .before .before .before .before .before .regs .given ∙ o .inv .2,
     )
@@ -211,7 +214,7 @@ same-length-9 c = c .before .before .loop .inv .0 .same
 returns-4 : tie.Need-returns-4 Inv-loop μ-loop
 returns-4 c =
     let o = c .before .before .loop in
-    rw (c .ended4 .ensures) (with-book _ _ _ _ _ _ _ (out-used-up _ _ _ _ _ _ _ (o .inv .0) (omega arith)))
+    rw (c .ended4 .ensures) (with-book _ _ _ _ _ _ _ _ (out-used-up _ _ _ _ _ _ _ _ _ _ (o .inv .0) (omega arith)))
 
 pub run-spec : {M : Type 1} → statement M
 run-spec =

@@ -9,12 +9,11 @@ use borrow.Author.Needs.{needs}
 use denote.Enum.Declared.{tagOf}
 use Rattle.memory.specs.Head.{house}
 use Rattle.breakpoint.proofs.Laws.{ready-findable}
-use Rattle.target_fit.proofs.Laws.{fit-few}
 use Rattle.common.specs.Keys.{among}
 use Rattle.common.proofs.Keys.{among-yes}
 use Rattle.common.proofs.Same.{true-or-false, parts}
-use Rattle.request_process.proofs.Laws.{replies}
-use Rattle.step_effect.specs.Change.{applied}
+use Rattle.step_effect.specs.Change.{stored}
+use Rattle.step_effect.proofs.Laws.{replies, ready-few, ready-lent, ready-arrays}
 use Rattle.rules.specs.Outcome.{World, error}
 use Rattle.rules.specs.Request.{serve}
 use Rattle.wire.specs.Message.{isPut, isMessage}
@@ -35,7 +34,7 @@ put-few m addr n d e h = let f = sym (ap isMessage e) ∙ h in search parts
 
 -- there are four processes at most
 few : (c : tie.Start) → c .args .t .count ≤ 4
-few c = fit-few house (c .args .t) _ (c .pre .0 .0 .fit)
+few c = ready-few (c .args .t) _ _ _ (c .pre .0 .0)
 
 -- every message but the eight requests; a tag is the variant's place
 others : (w : World) (m : Message)
@@ -63,10 +62,12 @@ enum-known-m : tie.Need-enum-known-m
 enum-known-m c = search needs
 
 mget-requires : tie.Need-mget-requires
-mget-requires c κs = search needs
+mget-requires c κs =
+    let s = c .before .before .before .before .before .before .before in
+    ready-lent (s .args .t) _ _ _ (s .pre .0 .0) _ (s .pre .0 .1)
 
-with-requires : tie.Need-with-requires
-with-requires c κs = search needs
+answering-requires : tie.Need-answering-requires
+answering-requires c κs = search needs
 
 enum-known-m-2 : tie.Need-enum-known-m-2
 enum-known-m-2 c = search needs
@@ -75,7 +76,7 @@ mput-requires : tie.Need-mput-requires
 mput-requires c κs =
     let m = c .before .before .before in
     let s = m .before .before .before .before in
-    (s .pre .0, omega (arith, put-few _ _ _ _ (m .m2 .given .1) (s .pre .1)))
+    (ready-lent (s .args .t) _ _ _ (s .pre .0 .0) _ (s .pre .0 .1), omega (arith, put-few _ _ _ _ (m .m2 .given .1) (s .pre .1)))
 
 enum-known-m-3 : tie.Need-enum-known-m-3
 enum-known-m-3 c = search needs
@@ -107,20 +108,19 @@ enum-known-m-7 c = search needs
 start-requires : tie.Need-start-requires
 start-requires c κs =
     let s = c .before .before .before .before .before .before in
-    let r = s .pre .0 in
-    (ready-findable (s .args .t) _ _ _ (s .good .0) (r .0), (few s, r .1))
+    (few s, s .pre .0 .1)
 
 enum-known-m-8 : tie.Need-enum-known-m-8
 enum-known-m-8 c = search needs
 
 condbreak-requires : tie.Need-condbreak-requires
-condbreak-requires c κs = search needs
+condbreak-requires c κs = let s = c .before .before .before .before .before .before .before in s .pre .0 .0
 
 bytes-of-requires : tie.Need-bytes-of-requires
 bytes-of-requires c κs = search needs
 
-with-requires-2 : tie.Need-with-requires-2
-with-requires-2 c κs = search needs
+answering-requires-2 : tie.Need-answering-requires-2
+answering-requires-2 c κs = search needs
 
 same-length : tie.Need-same-length
 same-length c = search needs
@@ -129,10 +129,12 @@ same-length-2 : tie.Need-same-length-2
 same-length-2 c = search needs
 
 returns : tie.Need-returns
-unfolding serve applied
+unfolding serve stored
 returns c =
     let g = c .before in
-    rw (c .with .ensures, g .before .before .before .before .m .given .1) (g .mget .ensures)
+    let s = g .before .before .before .before .before .before .before .before in
+    rw (c .answering .ensures, g .before .before .before .before .m .given .1)
+    (g .mget .ensures _ (ready-arrays (s .args .t) _ _ _ (s .pre .0 .0)))
 
 same-length-3 : tie.Need-same-length-3
 same-length-3 c = search needs
@@ -144,30 +146,36 @@ returns-2 : tie.Need-returns-2
 unfolding serve
 returns-2 c =
     let p = c .before .before .before .before in
-    rw (p .before .before .before .before .m2 .given .1) (p .mput .ensures)
+    let m = p .before .before .before .before in
+    let s = m .before .before .before .before in
+    rw (m .m2 .given .1) (p .mput .ensures _ (ready-arrays (s .args .t) _ _ _ (s .pre .0 .0)))
 
 returns-3 : tie.Need-returns-3
 unfolding serve
-returns-3 c = rw (c .before .before .m3 .given .1) (c .proc .ensures _ _)
+returns-3 c = rw (c .before .before .m3 .given .1) (c .proc .ensures _ _ _)
 
 returns-4 : tie.Need-returns-4
 unfolding serve
-returns-4 c = rw (c .before .before .m4 .given .1) (c .status .ensures _ _)
+returns-4 c = rw (c .before .before .m4 .given .1) (c .status .ensures _ _ _)
 
 returns-5 : tie.Need-returns-5
 unfolding serve
-returns-5 c = rw (c .before .before .m5 .given .1) (c .rnote .ensures _ _)
+returns-5 c = rw (c .before .before .m5 .given .1) (c .rnote .ensures _ _ _)
 
 returns-6 : tie.Need-returns-6
 unfolding serve
-returns-6 c = rw (c .before .before .m6 .given .1) (c .stop .ensures _ _)
+returns-6 c = rw (c .before .before .m6 .given .1) (c .stop .ensures _ _ _)
 
 same-length-5 : tie.Need-same-length-5
 same-length-5 c = search needs
 
 returns-7 : tie.Need-returns-7
 unfolding serve
-returns-7 c = rw (c .before .before .before .m7 .given .1) (c .start .ensures _)
+returns-7 c =
+    let m = c .before .before .before in
+    let s = m .before .before .before .before in
+    rw (m .m7 .given .1)
+    (c .start .ensures _ _ (ready-findable (s .args .t) _ _ (s .good .0) _ _ (s .pre .0 .0)))
 
 same-length-6 : tie.Need-same-length-6
 same-length-6 c = search needs
@@ -176,13 +184,13 @@ returns-8 : tie.Need-returns-8
 unfolding serve
 returns-8 c =
     let p = c .before .before in
-    rw (p .before .before .before .m8 .given .1) (p .condbreak .ensures _)
+    rw (p .before .before .before .before .m8 .given .1) (p .condbreak .ensures _)
 
 returns-9 : tie.Need-returns-9
-unfolding error applied
+unfolding error stored
 returns-9 c =
     let b = c .before in
-    replies _ _ _ _ (c .with2 .ensures) (b .bytes-of .ensures) ∙ others _ _ (among-yes _ _ (b .before .match .keys9))
+    replies _ _ _ _ _ (c .answering2 .ensures) (b .bytes-of .ensures) ∙ others _ _ (among-yes _ _ (b .before .match .keys9))
 
 pub serve-spec : {M : Type 1} → statement M
 serve-spec =
@@ -190,7 +198,7 @@ serve-spec =
     (tie.spec
     enum-known-m
     mget-requires
-    with-requires
+    answering-requires
     enum-known-m-2
     mput-requires
     enum-known-m-3
@@ -206,7 +214,7 @@ serve-spec =
     enum-known-m-8
     condbreak-requires
     bytes-of-requires
-    with-requires-2
+    answering-requires-2
     same-length
     same-length-2
     returns

@@ -17,12 +17,12 @@ enum-known-asked c = search needs
 
 serve-requires : tie.Need-serve-requires
 serve-requires c κs =
-    let a = c .before .before .before in
+    let a = c .before .before .before .before in
     let p = a .before .before in
     (p .before .before .before .before .before .pre .0, asks-message _ _ (sym (p .parse .ensures) ∙ a .asked .given .1))
 
-accepted-requires : tie.Need-accepted-requires
-accepted-requires c κs = search needs
+replied-requires : tie.Need-replied-requires
+replied-requires c κs = search needs
 
 enum-known-asked-2 : tie.Need-enum-known-asked-2
 enum-known-asked-2 c = search needs
@@ -30,8 +30,8 @@ enum-known-asked-2 c = search needs
 refuse-requires : tie.Need-refuse-requires
 refuse-requires c κs = search needs
 
-accepted-requires-2 : tie.Need-accepted-requires-2
-accepted-requires-2 c κs = search needs
+replied-requires-2 : tie.Need-replied-requires-2
+replied-requires-2 c κs = search needs
 
 enum-told : tie.Need-enum-told
 enum-told c = search needs
@@ -53,9 +53,9 @@ unfolding requestBy
 returns c =
     let d = c .before .before in
     let s = d .before .before .before .before .before .before in
-    let a = s .before .before .before .before in
+    let a = s .before .before .before .before .before in
     asked _ _ _ _ (sym (a .asked .given .1) ∙ a .before .before .parse .ensures) _
-    (accepts _ _ _ _ _ _ (d .accepted .ensures) ∙ s .serve .ensures)
+    (accepts _ _ _ _ _ _ _ (d .replied .ensures) ∙ s .serve .ensures)
 
 same-length-4 : tie.Need-same-length-4
 same-length-4 c = search needs
@@ -67,14 +67,14 @@ returns-2 c =
     let s = d .before .before in
     let a = s .before .before in
     asked _ _ _ _ (sym (a .asked2 .given .1) ∙ a .before .before .parse .ensures) _
-    (accepts _ _ _ _ _ _ (d .accepted2 .ensures) ∙ s .refuse .ensures _ _ _)
+    (accepts _ _ _ _ _ _ _ (d .replied2 .ensures) ∙ s .refuse .ensures _ _ _ _)
 
 returns-3 : tie.Need-returns-3
 unfolding requestBy
 returns-3 c =
     let t = c .before in
     asked _ _ _ _ (sym (t .enum-told .given .1) ∙ t .before .before .parse .ensures) _
-    (refuses _ _ _ 2 (c .keeping .ensures))
+    (refuses _ _ _ _ _ _ _ _ 2 (c .keeping .ensures))
 
 pub request-spec : {M : Type 1} → statement M
 request-spec =
@@ -83,10 +83,10 @@ request-spec =
     parse-requires
     enum-known-asked
     serve-requires
-    accepted-requires
+    replied-requires
     enum-known-asked-2
     refuse-requires
-    accepted-requires-2
+    replied-requires-2
     enum-told
     keeping-requires
     same-length

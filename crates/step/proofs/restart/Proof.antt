@@ -1,9 +1,6 @@
 -- `step::restart` meets its contract: memory is plain memory, and the reply the message. Assumes nothing.
-use mathlib.Core.Path.{_≡_, sym, _∙_}
+use mathlib.Core.Path.{_∙_}
 use borrow.Author.Needs.{needs}
-use denote.Ref.{now}
-use lib.ListN.{length}
-use Rattle.common.proofs.Lists.{copy-whole}
 use Rattle.step.proofs.Laws.{restart-as}
 use Rattle.step.proofs.restart.Statement.{statement}
 use Rattle.step.proofs.restart.Tie as tie
@@ -14,14 +11,11 @@ restore-requires c κs = search needs
 bytes-of-requires : tie.Need-bytes-of-requires
 bytes-of-requires c κs = search needs
 
-slice-aggregate-copy : tie.Need-slice-aggregate-copy
-slice-aggregate-copy c = search needs
+answering-requires : tie.Need-answering-requires
+answering-requires c κs = search needs
 
-copy-requires : tie.Need-copy-requires
-copy-requires c κs = search needs
-
-changing-requires : tie.Need-changing-requires
-changing-requires c κs = search needs
+replied-requires : tie.Need-replied-requires
+replied-requires c κs = search needs
 
 same-length : tie.Need-same-length
 same-length c = search needs
@@ -30,15 +24,14 @@ same-length-2 : tie.Need-same-length-2
 same-length-2 c = search needs
 
 returns : tie.Need-returns
-returns c =
-    let k = c .before .before .before in
-    let m = k .before .before .before in
+returns c t words regs ok =
+    let r = c .before .before in
+    let a = r .before .before in
+    let m = a .before in
     let o = m .before .before .before in
-    let s = o .before .before .before .before .before .before .before .before in
-    let ten : length (m .bytes-of .result) ≡ 10 = search needs in
-    λ regs. restart-as _ _ (s .pre .0) _ _ _ (c .changing .ensures) (o .restore .ensures)
-    (k .copy .ensures ∙ copy-whole (now (s .args .reply)) (m .bytes-of .result) (s .pre .1 ∙ sym ten)
-    ∙ m .bytes-of .ensures)
+    let e = rw (m .bytes-of .ensures) at (a .answering .ensures) in
+    restart-as t words _ regs _ ok _ _ _ _ (r .replied .ensures .0 ∙ e) (o .restore .ensures)
+    (rw e at (r .replied .ensures .1))
 
 pub restart-spec : {M : Type 1} → statement M
 restart-spec =
@@ -46,9 +39,8 @@ restart-spec =
     (tie.spec
     restore-requires
     bytes-of-requires
-    slice-aggregate-copy
-    copy-requires
-    changing-requires
+    answering-requires
+    replied-requires
     same-length
     same-length-2
     returns)

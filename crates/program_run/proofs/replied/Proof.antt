@@ -1,14 +1,14 @@
--- `program_run::request` meets its contract: what the step gave is what is shown. Assumes nothing.
+-- `program_run::replied` meets its contract: what the step gave is what is shown. Assumes nothing.
 use borrow.Author.Needs.{needs}
 use Rattle.program_run.proofs.Steps.{steps-shown}
-use Rattle.program_run.proofs.request.Statement.{statement}
-use Rattle.program_run.proofs.request.Tie as tie
+use Rattle.program_run.proofs.replied.Statement.{statement}
+use Rattle.program_run.proofs.replied.Tie as tie
 
-slice-aggregate-request : tie.Need-slice-aggregate-request
-slice-aggregate-request c = search needs
+slice-aggregate-step : tie.Need-slice-aggregate-step
+slice-aggregate-step c = search needs
 
-request-requires : tie.Need-request-requires
-request-requires c κs = search needs
+step-requires : tie.Need-step-requires
+step-requires c κs = search needs
 
 slice-aggregate-shown : tie.Need-slice-aggregate-shown
 slice-aggregate-shown c = search needs
@@ -29,14 +29,14 @@ returns : tie.Need-returns
 returns c =
     let h = c .before .before in
     let k = h .before .before .before .before .before .before .before .before in
-    steps-shown _ _ _ _ _ _ _ _ _ _ (k .request .ensures) (h .shown .ensures)
+    steps-shown _ _ _ _ _ _ _ _ _ _ _ (k .step .ensures) (h .shown .ensures)
 
-pub request-spec : {M : Type 1} → statement M
-request-spec =
+pub replied-spec : {M : Type 1} → statement M
+replied-spec =
     tie.close
     (tie.spec
-    slice-aggregate-request
-    request-requires
+    slice-aggregate-step
+    step-requires
     slice-aggregate-shown
     shown-requires
     same-length
