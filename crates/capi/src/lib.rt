@@ -1,7 +1,7 @@
 // The steps for kernels in C and Rust, over a record that the caller owns. include/sanirvoq.h is the same for C.
 //
-// Every exported step but the setup has one form: the record, its pool, the memory, the register area, a pid, a byte, an
-// input and a reply. What a step does not use it leaves as it is. A setup has no pool; it gives back a whole record,
+// Every exported step but the setup has one form: the record, its pool, the memory, the register area, a pid, a byte,
+// an input and a reply. What a step does not use it leaves as it is. A setup has no pool; it gives back a whole record,
 // which is stored. All other steps go through one function, `capi_lent::step`.
 use frame::Reader;
 use frame_fields::FedFields;
@@ -68,7 +68,17 @@ pub extern "C" fn sanirvoq_step_request(
         pid value (now (input .entry)) (now (reply .entry)) r (now (t .exit)) (now (places .exit)) (now (mem .exit))
         (now (regs .exit)) (now (reply .exit)) ⌝ }
 {
-    capi_lent::step(t, places, StepKind::Request, mem, regs, pid, value, input, reply)
+    capi_lent::step(
+        t,
+        places,
+        StepKind::Request,
+        mem,
+        regs,
+        pid,
+        value,
+        input,
+        reply,
+    )
 }
 
 // A process ran into a trap: pid, and its block as input.
@@ -87,7 +97,17 @@ pub extern "C" fn sanirvoq_step_trap(
         pid value (now (input .entry)) (now (reply .entry)) r (now (t .exit)) (now (places .exit)) (now (mem .exit))
         (now (regs .exit)) (now (reply .exit)) ⌝ }
 {
-    capi_lent::step(t, places, StepKind::Trap, mem, regs, pid, value, input, reply)
+    capi_lent::step(
+        t,
+        places,
+        StepKind::Trap,
+        mem,
+        regs,
+        pid,
+        value,
+        input,
+        reply,
+    )
 }
 
 // The kernel is about to run a process: pid, and its block as input.
@@ -106,7 +126,17 @@ pub extern "C" fn sanirvoq_step_schedule(
         pid value (now (input .entry)) (now (reply .entry)) r (now (t .exit)) (now (places .exit)) (now (mem .exit))
         (now (regs .exit)) (now (reply .exit)) ⌝ }
 {
-    capi_lent::step(t, places, StepKind::Schedule, mem, regs, pid, value, input, reply)
+    capi_lent::step(
+        t,
+        places,
+        StepKind::Schedule,
+        mem,
+        regs,
+        pid,
+        value,
+        input,
+        reply,
+    )
 }
 
 // A process gets another state: pid and value.
@@ -125,7 +155,17 @@ pub extern "C" fn sanirvoq_step_state(
         pid value (now (input .entry)) (now (reply .entry)) r (now (t .exit)) (now (places .exit)) (now (mem .exit))
         (now (regs .exit)) (now (reply .exit)) ⌝ }
 {
-    capi_lent::step(t, places, StepKind::State, mem, regs, pid, value, input, reply)
+    capi_lent::step(
+        t,
+        places,
+        StepKind::State,
+        mem,
+        regs,
+        pid,
+        value,
+        input,
+        reply,
+    )
 }
 
 // The debug session begins anew, answered in reply.
@@ -144,7 +184,17 @@ pub extern "C" fn sanirvoq_step_restart(
         pid value (now (input .entry)) (now (reply .entry)) r (now (t .exit)) (now (places .exit)) (now (mem .exit))
         (now (regs .exit)) (now (reply .exit)) ⌝ }
 {
-    capi_lent::step(t, places, StepKind::Restart, mem, regs, pid, value, input, reply)
+    capi_lent::step(
+        t,
+        places,
+        StepKind::Restart,
+        mem,
+        regs,
+        pid,
+        value,
+        input,
+        reply,
+    )
 }
 
 // Writes a message's ten bytes.

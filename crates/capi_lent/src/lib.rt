@@ -59,9 +59,8 @@ pub fn step(
     input: &[u8],
     reply: &mut [u8],
 ) -> u32
-    ensures { λ r. ⌜ Stepped kind (now (t .entry)) (now (places .entry)) (now (mem .entry))
-        (now (regs .entry)) pid value
-        (now (input .entry)) (now (reply .entry)) r (now (t .exit)) (now (places .exit)) (now (mem .exit))
+    ensures { λ r. ⌜ Stepped kind (now (t .entry)) (now (places .entry)) (now (mem .entry)) (now (regs .entry))
+        pid value (now (input .entry)) (now (reply .entry)) r (now (t .exit)) (now (places .exit)) (now (mem .exit))
         (now (regs .exit)) (now (reply .exit)) ⌝ }
 {
     let e = step::step(*t, places, kind, mem, regs, pid, value, input, reply);

@@ -1,13 +1,15 @@
 -- `sanirvoq_step_setup` meets its contract: the walk of `ThinWhole.antt`, at this function's callee and relation.
+use mathlib.Core.List.{List}
 use mathlib.Core.Path.{_≡_}
+use Prim.Native.Nat.{ℕ}
 use contract.Running.{givenOf, tables, tablesOf}
 use denote.Triple.Spec.{tripleOf}
 use denote.Triple.Table.{entered, cited}
 use Rattle.rules.specs.Outcome.{world}
 use Rattle.step.specs.Kinds.{leaving}
 use Rattle.capi_results.specs.Seen.{seen, seenOf, setupFrom}
-use Rattle.capi.proofs.PassOn.{OneKind}
-use Rattle.capi.proofs.ThinWhole.{Inner, thin-meets}
+use Rattle.target.specs.View.{viewOf}
+use Rattle.capi.proofs.ThinWhole.{Whole-rel, Inner, thin-meets}
 use Rattle.capi_results.proofs.setup.Symbol as inner-def
 use Rattle.capi_results.proofs.setup.Symbol.{name as #inner}
 use Rattle.capi_results.proofs.setup.Met as inner-thm
@@ -16,8 +18,11 @@ use Rattle.capi.proofs.sanirvoq_step_setup as f
 use Rattle.capi.proofs.sanirvoq_step_setup.Statement as stated
 use Rattle.capi.proofs.sanirvoq_step_setup.Code as code
 
-abbrev φ : OneKind
-φ h ms gs p v i os n h′ ms′ gs′ os′ = seen n h′ ms′ gs′ os′ ≡ seenOf (leaving os (setupFrom (world h ms gs)))
+-- with any pool, which a setup does not touch
+abbrev φ : Whole-rel
+φ h ms gs p v i os n h′ ms′ gs′ os′ =
+    (words : List ℕ)
+    → seen n (viewOf h′ words) ms′ gs′ os′ ≡ seenOf (leaving os (setupFrom (world (viewOf h words) ms gs)))
 
 pub sanirvoq-step-setup-spec : {M : Type 1} → stated.statement M
 unfolding code.routine tablesOf

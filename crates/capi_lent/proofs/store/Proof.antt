@@ -1,6 +1,7 @@
 -- `store` meets its contract: a walk of its MIR, by hand. Where the effect is about what stands beside the table that
 -- is stored, in a record that is lent, and the record is handed on. The parts that are stored one after the other make
--- the record after the change. Assumes nothing.
+-- the record after the change.
+-- Assumes nothing.
 use mathlib.Core.Path.{_≡_, refl, ap, sym, _∙_, subst}
 use mathlib.Core.Bool.{Bool, not}
 use Prim.Native.Nat.{ℕ}

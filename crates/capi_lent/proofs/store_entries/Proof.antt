@@ -1,5 +1,6 @@
 -- `store_entries` meets its contract: a walk of its MIR, by hand. Where the effect is about the entries they are
--- stored, in a record that is lent, and the record is handed on. Assumes nothing.
+-- stored, in a record that is lent, and the record is handed on.
+-- Assumes nothing.
 use mathlib.Core.Path.{_≡_, refl, ap, sym, _∙_, subst}
 use mathlib.Core.Bool.{Bool, not}
 use Prim.Native.Nat.{ℕ}
