@@ -5,7 +5,7 @@ ghost use lib.ListN.{length};
 ghost use Rattle.pool_turn.specs.Turned.{reversed, turned};
 
 // The elements from `from` to `end`, the last first.
-pub fn reverse(s: &mut [u32], from: usize, end: usize)
+fn reverse(s: &mut [u32], from: usize, end: usize)
     requires { ⌜ (from ≤ end) × (end ≤ length (now s)) ⌝ }
     ensures { λ _. ⌜ now (s .exit) ≡ reversed from end (now (s .entry)) ⌝ }
 {
@@ -28,13 +28,4 @@ pub fn turn(s: &mut [u32], from: usize, mid: usize, end: usize)
     reverse(s, from, mid);
     reverse(s, mid, end);
     reverse(s, from, end);
-}
-
-// The same in an array of the pool's size.
-pub fn turn_words(words: &mut [u32; 256], from: usize, mid: usize, end: usize)
-    requires { ⌜ (from ≤ mid) × (mid ≤ end) × (end ≤ 256) ⌝ }
-    ensures { λ _. ⌜ now (words .exit) ≡ turned from mid end (now (words .entry)) ⌝ }
-{
-    let all = &mut words[..];
-    turn(all, from, mid, end);
 }
