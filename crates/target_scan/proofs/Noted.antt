@@ -19,7 +19,7 @@ abbrev pub idPlace : ℕ → ℕ
 idPlace id = id % 32
 
 abbrev pub sitePlace : ℕ → ℕ
-sitePlace site = site / 2 % 32 + 32
+sitePlace site = site / 2 % 31 + 32
 
 -- ---- the values of one list
 

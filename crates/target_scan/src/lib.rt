@@ -127,8 +127,9 @@ fn scan_table(mem: &[u8], base: u32, t: Table, places: &[u32; Table::WORDS]) -> 
     let mut ids: [u32; Table::ENTRIES] = [Scan::FREE_ID; Table::ENTRIES];
     let mut sites: [u32; Table::ENTRIES] = [Scan::FREE_SITE; Table::ENTRIES];
     let mut plain: [u8; Table::PLAIN] = [0; Table::PLAIN];
-    // 1 where an id (places 0 to 31) or an offset (32 to 63) of an entry passed falls. Equal ones fall on one place, so
-    // where both places of an entry are 0 it need not be compared with those before it.
+    // 1 where an id (places 0 to 31) or an offset (32 to 62) of an entry passed falls. Equal ones fall on one place, so
+    // where both places of an entry are 0 it need not be compared with those before it. 31 is prime: sites that lie a
+    // power of two apart fall on different places.
     let mut noted: [u8; 64] = [0; 64];
     let mut held: usize = 0;
     let mut i: usize = 0;
@@ -143,7 +144,7 @@ fn scan_table(mem: &[u8], base: u32, t: Table, places: &[u32; Table::WORDS]) -> 
             let id = e.id as u32;
             let at = e.site - base;
             let id_place = (id % 32) as usize;
-            let site_place = (at / 2 % 32 + 32) as usize;
+            let site_place = (at / 2 % 31 + 32) as usize;
             if !apart(noted[id_place], noted[site_place], &ids, &sites, i, id, at) {
                 return unfit();
             }
