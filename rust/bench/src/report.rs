@@ -4,9 +4,11 @@ use crate::cases::Fill;
 use crate::stack::Depth;
 use crate::timing::{median, median_ratio, Timing};
 
-/// The largest ratio that is aimed at over a full table, and over any other.
-const AIM_FULL: f64 = 1.5;
-const AIM_EMPTY: f64 = 3.0;
+/// The largest ratio that is aimed at over a full table, over any other, and for a buffer of wrong size.
+const AIM_FULL: f64 = 1.0;
+const AIM_SMALL: f64 = 1.2;
+const AIM_WRONG_SIZE: f64 = 2.0;
+const WRONG_SIZE: &str = "refused, number 2";
 
 pub struct Row {
     pub name: &'static str,
@@ -39,36 +41,30 @@ pub fn heading() -> String {
     format!("{columns}{:>10}{:>10}{:>8}  {}", "proved ns", "Rust ns", "ratio", "copying taken off")
 }
 
-/// The largest ratios against the aims, and every case above its aim.
+/// The ratios of each group of cases against its aim.
 pub fn aims(rows: &[Row]) -> String {
-    let group = |name, aim, fills: &[Fill]| {
-        let group: Vec<&Row> = rows.iter().filter(|row| fills.contains(&row.fill)).collect();
+    let group = |name, aim, within: &dyn Fn(&Row) -> bool| {
+        let group: Vec<&Row> = rows.iter().filter(|row| within(row)).collect();
         against(name, aim, &group)
     };
-    let between = "one or three breakpoints, held to the same";
-    group("full table", AIM_FULL, &[Fill::Full])
-        + &group("empty table", AIM_EMPTY, &[Fill::Empty])
-        + &group(between, AIM_EMPTY, &[Fill::One, Fill::Three])
+    let over = |fills: &'static [Fill]| move |row: &Row| row.name != WRONG_SIZE && fills.contains(&row.fill);
+    group("full table", AIM_FULL, &over(&[Fill::Full]))
+        + &group("empty table", AIM_SMALL, &over(&[Fill::Empty]))
+        + &group("one or three breakpoints", AIM_SMALL, &over(&[Fill::One, Fill::Three]))
+        + &group("a wrong size", AIM_WRONG_SIZE, &|row| row.name == WRONG_SIZE)
 }
 
 fn against(name: &str, aim: f64, rows: &[&Row]) -> String {
-    let ratio = |row: &&&Row| row.timing.ratio();
-    let Some(largest) = rows.iter().max_by(|a, b| ratio(a).total_cmp(&ratio(b))) else {
+    let mut sorted = rows.to_vec();
+    sorted.sort_by(|a, b| a.timing.ratio().total_cmp(&b.timing.ratio()));
+    let (Some(least), Some(most)) = (sorted.first(), sorted.last()) else {
         return format!("{name}: no case was run\n");
     };
-    let mut above: Vec<_> = rows.iter().filter(|row| ratio(row) > aim).collect();
-    above.sort_by(|a, b| ratio(b).total_cmp(&ratio(a)));
-    let mut text = format!(
-        "{name}: largest ratio {:.2} ({}); aim {aim}; {} of {} above it\n",
-        ratio(&largest),
-        largest.place(),
-        above.len(),
-        rows.len()
-    );
-    for row in above {
-        text += &format!("  above: {:.2}  {}\n", ratio(&row), row.place());
-    }
-    text
+    let middle = sorted[sorted.len() / 2].timing.ratio();
+    let above = sorted.iter().filter(|row| row.timing.ratio() > aim).count();
+    let (low, high) = (least.timing.ratio(), most.timing.ratio());
+    let line = format!("{name}: ratios {low:.2} to {high:.2}, in the middle {middle:.2}");
+    format!("{line}; aim {aim}; {above} of {} above it\n  the largest: {}\n", sorted.len(), most.place())
 }
 
 /// What the proved steps cost over the largest window against the smallest, at most.
@@ -127,19 +123,22 @@ mod tests {
     }
 
     #[test]
-    fn every_case_above_its_aim_is_listed() {
+    fn each_group_is_held_to_its_aim() {
         let rows = [
-            row("a", Fill::Full, 64, 149.0, 100.0),
+            row("a", Fill::Full, 64, 99.0, 100.0),
             row("b", Fill::Full, 64, 151.0, 100.0),
             row("c", Fill::Full, 65_536, 200.0, 100.0),
-            row("d", Fill::Empty, 64, 290.0, 100.0),
+            row("d", Fill::Empty, 64, 119.0, 100.0),
+            row(WRONG_SIZE, Fill::Full, 64, 290.0, 100.0),
         ];
         let expected = "\
-full table: largest ratio 2.00 (c, table full, window 65536); aim 1.5; 2 of 3 above it
-  above: 2.00  c, table full, window 65536
-  above: 1.51  b, table full, window 64
-empty table: largest ratio 2.90 (d, table empty, window 64); aim 3; 0 of 1 above it
-one or three breakpoints, held to the same: no case was run
+full table: ratios 0.99 to 2.00, in the middle 1.51; aim 1; 2 of 3 above it
+  the largest: c, table full, window 65536
+empty table: ratios 1.19 to 1.19, in the middle 1.19; aim 1.2; 0 of 1 above it
+  the largest: d, table empty, window 64
+one or three breakpoints: no case was run
+a wrong size: ratios 2.90 to 2.90, in the middle 2.90; aim 2; 1 of 1 above it
+  the largest: refused, number 2, table full, window 64
 ";
         assert_eq!(aims(&rows), expected);
     }
