@@ -47,7 +47,9 @@ pub fn aims(rows: &[Row]) -> String {
         let group: Vec<&Row> = rows.iter().filter(|row| within(row)).collect();
         against(name, aim, &group)
     };
-    let over = |fills: &'static [Fill]| move |row: &Row| row.name != WRONG_SIZE && fills.contains(&row.fill);
+    let over = |fills: &'static [Fill]| {
+        move |row: &Row| row.name != WRONG_SIZE && fills.contains(&row.fill)
+    };
     group("full table", AIM_FULL, &over(&[Fill::Full]))
         + &group("empty table", AIM_SMALL, &over(&[Fill::Empty]))
         + &group("one or three breakpoints", AIM_SMALL, &over(&[Fill::One, Fill::Three]))
@@ -64,7 +66,11 @@ fn against(name: &str, aim: f64, rows: &[&Row]) -> String {
     let above = sorted.iter().filter(|row| row.timing.ratio() > aim).count();
     let (low, high) = (least.timing.ratio(), most.timing.ratio());
     let line = format!("{name}: ratios {low:.2} to {high:.2}, in the middle {middle:.2}");
-    format!("{line}; aim {aim}; {above} of {} above it\n  the largest: {}\n", sorted.len(), most.place())
+    format!(
+        "{line}; aim {aim}; {above} of {} above it\n  the largest: {}\n",
+        sorted.len(),
+        most.place()
+    )
 }
 
 /// What the proved steps cost over the largest window against the smallest, at most.
