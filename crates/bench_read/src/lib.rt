@@ -1,5 +1,6 @@
 // For the benchmark alone, outside the archive of the stub: reads of nine bytes in two ways, the one that the stub has
 // and one that looks for a slot at every byte.
+use target::Entry;
 use target::Table;
 ghost use mathlib.Core.Path.{_≡_};
 ghost use Prim.Native.Nat.{min};
@@ -28,7 +29,7 @@ fn by_bytes(
         let i = from + j;
         let slot = memory::slot_of(sites, i);
         if slot < all.len() {
-            out[j] = kept[2 * slot + i % 2];
+            out[j] = kept[Entry::ROOM * slot + i % 2];
         } else {
             out[j] = part[j];
         }

@@ -6,20 +6,24 @@ use Prim.Native.Nat.{ℕ, _+_, _-_, _*_, _%_, _<_, _≤_}
 use native.Mathlib.Omega.{arith}
 use borrow.Author.Tests.{lt-ltb, le-ltb, eq-eqb, ne-eqb}
 use lib.Dec.{eqb}
-use lib.ListN.{length, getD}
-use lib.Seq.{getD-take}
+use lib.ListN.{length, getD, take}
+use lib.Seq.{getD-take, length-take-le}
 use mir.Val.{Val}
 use denote.Laws.{Is}
 use Rattle.common.proofs.Cases.{on-less, on-same}
 use Rattle.common.proofs.First.{first-map, first-within}
 use Rattle.common.proofs.Tab.{two-of}
 use Rattle.target_fit.proofs.Slots.{plain-byte, shape-at, eight-entries, eight-stored, target-small}
-use Rattle.target_fit.proofs.Slots.{two-each as two-stored}
+use Rattle.target_fit.proofs.Slots.{roomy as room-stored}
 use Rattle.target_fit.specs.Arrays.{siteOf, sitesOf}
 use Rattle.target_fit.specs.Fit.{entryAt}
 use Rattle.target_fit.specs.declared.Scan.{Scan}
 use Rattle.memory.specs.Head.{house}
 use Rattle.memory.specs.Overlay.{siteOver, slotOf}
+use Rattle.memory.specs.Write.{bytesAt}
+use Rattle.memory.proofs.Lawful.{house-lawful}
+use Rattle.common.specs.Tab.{tab}
+use Rattle.target.specs.Limits.{plainRoom}
 use Rattle.rules.specs.declared.Answer.the-variants.{Nothing, Pass}
 use Rattle.rules.specs.Breakpoint.{sites, isAt, breakpointAt, passOf, passAt}
 use Rattle.rules.proofs.Facts.{Shaped, Good}
@@ -50,7 +54,7 @@ module _ (t : StoredTarget) (words : List ℕ) (vs : List Val) (h : Is target.th
         entry = λ k l.
             let b : k < length es = omega arith in
             record {
-              plain = two-stored t vs (elementsOf words) h k b;
+              plain = room-stored t vs (elementsOf words) h k b;
               id = target-small t vs (elementsOf words) h k b;
             };
         draftId = draft-shape (t .table .draft) _ d .id;
@@ -60,7 +64,7 @@ module _ (t : StoredTarget) (words : List ℕ) (vs : List Val) (h : Is target.th
   module _ (s : Scan) (mem : List ℕ) (r : Ready house (viewOf t words) s mem) where
     -- what a step starts from is a good record
     pub ready-good : Good house (viewOf t words) mem
-    ready-good = record { shaped = shaped-of; fit = r .fit; sized = r .memory }
+    ready-good = record { lawful = house-lawful; shaped = shaped-of; fit = r .fit; sized = r .memory }
 
     -- its breakpoints can be found
     pub ready-findable : Findable (viewOf t words) s
@@ -69,7 +73,7 @@ module _ (t : StoredTarget) (words : List ℕ) (vs : List Val) (h : Is target.th
         record {
           traps = r .sites;
           even = omega (arith, f .baseFour);
-          placed = λ k l u. let e = f .used k (omega (arith, shaped-of .entries), u) in (e .even, e .low);
+          placed = λ k l u. let e = f .used k (omega (arith, shaped-of .entries), u) in (e .multiple, e .low);
         }
 
 -- ---- the breakpoint at an address is the slot that covers its offset
@@ -121,26 +125,21 @@ module _ (t : Target) (s : Scan) (f : Findable t s) (address : ℕ) where
 -- ---- what a kernel runs in the place of the trap, by where the breakpoint is found
 
 module _ (es : List Entry) (address k : ℕ) (z : length es ≡ 8) (e : k ≡ breakpointAt es address) where
-  pub pass-none : 8 ≤ k → Nothing ≡ passAt es address
+  pub pass-none : 8 ≤ k → Nothing ≡ passAt house es address
   unfolding passAt
   pass-none h = rw (← e, z, le-ltb k 8 h)
 
-  pub pass-one : k < 8 → passOf (entryAt es k) ≡ passAt es address
+  pub pass-one : k < 8 → passOf house (entryAt es k) ≡ passAt house es address
   unfolding passAt
   pass-one h = rw (← e, z, lt-ltb k 8 h)
 
 -- the two plain bytes of a stored entry, as Pass has them
 pub pass-stored : (t : StoredTarget) (words : List ℕ) (vs : List Val) (k : ℕ) → Is target.the-row t vs → k < 8
     → let p = getD (t .table .entries) k pastEntries .plain in
-    Pass (getD p 0 0) (getD p 1 0) ≡ passOf (entryAt (viewOf t words .table .entries) k)
-unfolding passOf
+    Pass (getD p 0 0) (getD p 1 0) 0 0 ≡ passOf house (entryAt (viewOf t words .table .entries) k)
+unfolding passOf bytesAt tab
 pass-stored t words vs k h l =
-    let p = getD (t .table .entries) k pastEntries .plain in
-    rw (
-      view-at (t .table .entries) (elementsOf words) k (omega (arith, eight-stored t vs h)),
-      getD-take 2 p 0 0 (omega arith),
-      getD-take 2 p 1 0 (omega arith),
-    )
+    rw (view-at (t .table .entries) (elementsOf words) k (omega (arith, eight-stored t vs h)))
 
 -- ---- the scan's slot of a used entry: its site, as an offset into the window, and its two plain bytes
 
@@ -151,10 +150,18 @@ module _ (t : Target) (s : Scan) (k : ℕ) (r : Removable t s k) where
   pub slot-site : getD (s .sites) k 0 ≡ entryAt (t .table .entries) k .site - t .base
   slot-site = rw (r .traps) (slot-used (t .base) (t .table .entries) k within (r .used))
 
-  slot-byte : (i j : ℕ) → j < 2 → i ≡ k * 2 + j → getD (s .plain) i 0 ≡ getD (entryAt (t .table .entries) k .plain) j 0
-  slot-byte i j l e = rw (r .plain, e) (plain-byte (t .table .entries) (r .two) k j within l)
+  slot-byte : (i j : ℕ) → j < plainRoom → i ≡ k * plainRoom + j
+      → getD (s .plain) i 0 ≡ getD (entryAt (t .table .entries) k .plain) j 0
+  slot-byte i j l e = rw (r .plain, e) (plain-byte (t .table .entries) (r .room) k j within l)
 
-  pub slot-plain : getD (s .plain) (2 * k) 0 ∷ getD (s .plain) (2 * k + 1) 0 ∷ [] ≡ entryAt (t .table .entries) k .plain
+  pub slot-plain : getD (s .plain) (4 * k) 0 ∷ getD (s .plain) (4 * k + 1) 0 ∷ []
+      ≡ take 2 (entryAt (t .table .entries) k .plain)
   slot-plain =
-      rw (slot-byte (2 * k) 0 (omega arith) (omega arith), slot-byte (2 * k + 1) 1 (omega arith) (omega arith))
-      (sym (two-of (entryAt (t .table .entries) k .plain) 0 (r .two k within)))
+      let p = entryAt (t .table .entries) k .plain in
+      rw (
+        slot-byte (4 * k) 0 (omega arith) (omega arith),
+        slot-byte (4 * k + 1) 1 (omega arith) (omega arith),
+        ← getD-take 2 p 0 0 (omega arith),
+        ← getD-take 2 p 1 0 (omega arith),
+      )
+      (sym (two-of (take 2 p) 0 (length-take-le 2 p (omega (arith, r .room k within)))))

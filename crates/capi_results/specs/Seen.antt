@@ -4,6 +4,7 @@ use mathlib.Core.List.{List, [], _∷_}
 use lib.ListN.{getD}
 use Rattle.common.specs.Bytes.{ofHighFirst}
 use Rattle.target_fit.specs.Fit.{processAt}
+use Rattle.memory.specs.Head.{house}
 use Rattle.rules.specs.declared.Answer.{Answer}
 use Rattle.rules.specs.Outcome.{World, world, Outcome, answerBytes}
 use Rattle.rules.specs.Step.{setupOf}
@@ -16,7 +17,7 @@ unfoldable pub packed : ℕ → List ℕ → ℕ
 packed number bytes = ofHighFirst (getD bytes 2 0 ∷ getD bytes 1 0 ∷ getD bytes 0 0 ∷ number ∷ [])
 
 unfoldable pub resultOf : ℕ → Answer → ℕ
-resultOf number answer = packed number (answerBytes answer)
+resultOf number answer = packed number (answerBytes house answer)
 
 -- the result, the record, memory and register area, and the reply buffer
 pub record Seen : Type 0 where

@@ -24,7 +24,7 @@ fn packed(number: u8, answer: Answer) -> u32
     match answer {
         Answer::Nothing => common::word(0, 0, 0, number),
         Answer::Stop(id) => common::word(0, id, 1, number),
-        Answer::Pass(x, y) => common::word(y, x, 2, number),
+        Answer::Pass(x, y, _, _) => common::word(y, x, 2, number),
         Answer::Yes => common::word(0, 0, 1, number),
         Answer::No => common::word(0, 0, 0, number),
     }

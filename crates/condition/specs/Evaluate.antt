@@ -6,7 +6,7 @@ use Prim.Native.Char.{code}
 use lib.Bits.{bitAnd}
 use lib.Dec.{leb, eqb}
 use lib.ListN.{length}
-use Rattle.memory.specs.Head.{Head}
+use Rattle.memory.specs.Head.{Head, width}
 use Rattle.memory.specs.Overlay.{plainAt}
 use Rattle.target.specs.declared.Element.{Element}
 use Rattle.condition.specs.declared.Fetched.{Fetched}
@@ -82,8 +82,8 @@ fetchOf h sites plain mem base a =
     cond (leb base a && leb (a - base + 4) (length mem))
     (Word
     (h .word
-    (plainAt 2 sites plain mem (a - base) ∷
-    plainAt 2 sites plain mem (a - base + 1) ∷
-    plainAt 2 sites plain mem (a - base + 2) ∷
-    plainAt 2 sites plain mem (a - base + 3) ∷ [])))
+    (plainAt (width h) sites plain mem (a - base) ∷
+    plainAt (width h) sites plain mem (a - base + 1) ∷
+    plainAt (width h) sites plain mem (a - base + 2) ∷
+    plainAt (width h) sites plain mem (a - base + 3) ∷ [])))
     Outside

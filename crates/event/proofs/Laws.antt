@@ -196,6 +196,6 @@ module _ (w : World) (pid : ℕ) (a : Lookup)
             unfolding trapped
             trap-stop y = found _ (rw (holds-as, y))
 
-            pub trap-pass : (o : Answer) → o ≡ passOf b → c ≡ false → answered o w ≡ trap house w pid block
+            pub trap-pass : (o : Answer) → o ≡ passOf house b → c ≡ false → answered o w ≡ trap house w pid block
             unfolding trapped
             trap-pass o q y = found _ (rw (holds-as, y, q))

@@ -82,7 +82,7 @@ pub fn trap(
     if condition::evaluate(mem, t.base, &sites, &plain, pid, places, from, count) {
         return stop(regs, i, block, Answer::Stop(e.id));
     }
-    Effect::keeping(common::ACCEPTED, Answer::Pass(e.plain[0], e.plain[1]))
+    Effect::keeping(common::ACCEPTED, Answer::Pass(e.plain[0], e.plain[1], 0, 0))
 }
 
 // The kernel is about to run a process, with these registers: is it to stop?

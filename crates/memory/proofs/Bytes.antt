@@ -7,15 +7,16 @@ use Prim.Native.Nat.{ℕ, _+_, _-_, _*_, _/_, _%_, _<_, _≤_}
 use native.Mathlib.Nat.{mod-lt, div-add-mod'}
 use native.Mathlib.Omega.{arith}
 use borrow.Author.Tests.{eq-eqb, ne-eqb, eqb-true, eqb-false, le-leb, lt-leb, lt-ltb, le-ltb}
-use lib.Dec.{eqb}
+use lib.Dec.{ltb}
 use lib.ListN.{length, getD}
 use Rattle.common.specs.Tab.{tab}
 use Rattle.common.proofs.Cases.{on-test, on-less}
-use Rattle.common.proofs.Division.{part-of, place-in, within-parts}
-use Rattle.common.proofs.Same.{true-or-false}
+use Rattle.common.proofs.Division.{part-of, place-in}
+use Rattle.common.proofs.Same.{true-or-false, and-both}
 use Rattle.common.proofs.Tab.{length-tab, tab-at, tab-is}
 use Rattle.memory.specs.Overlay.{siteOver, slotOf, covered, plainAt, plainOf, laidAt, laidOver}
-use Rattle.memory.specs.Write.{writtenAt, overwritten, memAfter, offsetOf, plainAfter}
+use Rattle.memory.specs.Write.{writtenAt, overwritten, memAfter, offsetOf, holdsPlain, plainAfter}
+use Rattle.target.specs.Limits.{plainRoom}
 use Rattle.memory.proofs.Site.{site-place, Free}
 use Rattle.memory.proofs.Slots.{slot-below, slot-site, covered-one, none-covered}
 
@@ -42,10 +43,10 @@ module _ (w : ℕ) (sites : List ℕ) (n : ℕ) (f g : ℕ → ℕ) where
 
 -- the byte at offset i where memory has old: under a trap the slot's, elsewhere old
 abbrev pub byteOver : ℕ → List ℕ → List ℕ → ℕ → ℕ → ℕ
-byteOver w sites plain i old = cond (covered w sites i) (getD plain (slotOf w sites i * w + i % w) 0) old
+byteOver w sites plain i old = cond (covered w sites i) (getD plain (slotOf w sites i * plainRoom + i % w) 0) old
 
 module _ (w : ℕ) (sites plain : List ℕ) (i old : ℕ) where
-  pub byte-under : covered w sites i ≡ true → byteOver w sites plain i old ≡ getD plain (slotOf w sites i * w + i % w) 0
+  pub byte-under : covered w sites i ≡ true → byteOver w sites plain i old ≡ getD plain (slotOf w sites i * plainRoom + i % w) 0
   byte-under e = rw e
 
   pub byte-bare : covered w sites i ≡ false → byteOver w sites plain i old ≡ old
@@ -63,7 +64,7 @@ module _ (w : ℕ) (sites plain mem : List ℕ) where
 
   -- under a trap that is the slot's
   pub plain-under : (i : ℕ) → covered w sites i ≡ true
-      → plainAt w sites plain mem i ≡ getD plain (slotOf w sites i * w + i % w) 0
+      → plainAt w sites plain mem i ≡ getD plain (slotOf w sites i * plainRoom + i % w) 0
   unfolding plainAt
   plain-under i e = byte-under w sites plain i (getD mem i 0) e
 
@@ -74,7 +75,7 @@ module _ (w : ℕ) (sites plain mem : List ℕ) where
 
   -- a list that has the slot's byte under each trap and memory's elsewhere is plain memory
   pub plain-is : (l : List ℕ) → length l ≡ length mem
-      → ((i : ℕ) → i < length mem → covered w sites i ≡ true → getD l i 0 ≡ getD plain (slotOf w sites i * w + i % w) 0)
+      → ((i : ℕ) → i < length mem → covered w sites i ≡ true → getD l i 0 ≡ getD plain (slotOf w sites i * plainRoom + i % w) 0)
       → ((i : ℕ) → i < length mem → covered w sites i ≡ false → getD l i 0 ≡ getD mem i 0)
       → plainOf w sites plain mem ≡ l
   unfolding plainOf plainAt
@@ -182,42 +183,54 @@ module _ (w : ℕ) (sites mem : List ℕ) (at : ℕ) (bytes : List ℕ) where
 -- the plain byte at place p
 abbrev pub afterAt : ℕ → List ℕ → List ℕ → ℕ → List ℕ → ℕ → ℕ
 afterAt w sites plain at bytes p =
-    cond (eqb (slotOf w sites (offsetOf w sites p)) (p / w)) (writtenAt at bytes (offsetOf w sites p) (getD plain p 0))
-    (getD plain p 0)
+    cond (holdsPlain w sites p) (writtenAt at bytes (offsetOf sites p) (getD plain p 0)) (getD plain p 0)
+
+-- a place that holds a plain byte is in the slot that covers the offset that it is for
+pub holds-slot : (w : ℕ) (sites : List ℕ) (p : ℕ) → holdsPlain w sites p ≡ true
+    → slotOf w sites (offsetOf sites p) ≡ p / plainRoom
+unfolding holdsPlain
+holds-slot w sites p e = eqb-true _ _ (and-both (ltb (p % plainRoom) w) _ e .1)
 
 -- the plain byte of an offset under a trap: it is for that offset, and is written
-module _ (w : ℕ) (pos : 0 < w) (sites : List ℕ) (i : ℕ) (e : covered w sites i ≡ true) where
-  offset-of-place : offsetOf w sites (slotOf w sites i * w + i % w) ≡ i
+module _ (w : ℕ) (pos : 0 < w) (few : w ≤ plainRoom) (sites : List ℕ) (i : ℕ) (e : covered w sites i ≡ true) where
+  in-room : i % w < plainRoom
+  in-room = omega (arith, mod-lt i pos)
+
+  offset-of-place : offsetOf sites (slotOf w sites i * plainRoom + i % w) ≡ i
   unfolding offsetOf
   offset-of-place =
       let k : ℕ = slotOf w sites i in
-      let r : i % w < w = mod-lt i pos in
-      rw (part-of w k (i % w) r, place-in w k (i % w) r, slot-site w sites i e) (site-place w i)
+      rw (part-of plainRoom k (i % w) in-room, place-in plainRoom k (i % w) in-room, slot-site w sites i e)
+      (site-place w i)
 
   -- of the places that are for an offset in their slot, no other is for this one
-  pub place-of-offset : (p : ℕ) → slotOf w sites (offsetOf w sites p) ≡ p / w → offsetOf w sites p ≡ i
-      → p ≡ slotOf w sites i * w + i % w
+  pub place-of-offset : (p : ℕ) → slotOf w sites (offsetOf sites p) ≡ p / plainRoom → offsetOf sites p ≡ i
+      → p ≡ slotOf w sites i * plainRoom + i % w
   unfolding offsetOf
   place-of-offset p s q =
-      let y : slotOf w sites i ≡ p / w = ap (slotOf w sites) (sym q) ∙ s in
-      let z : getD sites (p / w) 0 ≡ siteOver w i = rw y at (slot-site w sites i e) in
-      let r : p % w ≡ i % w = omega (arith, site-place w i) in
-      sym (div-add-mod' p w) ∙ rw (y, r)
+      let y : slotOf w sites i ≡ p / plainRoom = ap (slotOf w sites) (sym q) ∙ s in
+      let z : getD sites (p / plainRoom) 0 ≡ siteOver w i = rw y at (slot-site w sites i e) in
+      let r : p % plainRoom ≡ i % w = omega (arith, site-place w i) in
+      sym (div-add-mod' p plainRoom) ∙ rw (y, r)
+
+  place-holds : holdsPlain w sites (slotOf w sites i * plainRoom + i % w) ≡ true
+  unfolding holdsPlain
+  place-holds =
+      let k : ℕ = slotOf w sites i in
+      rw (offset-of-place, part-of plainRoom k (i % w) in-room, place-in plainRoom k (i % w) in-room,
+      lt-ltb (i % w) w (mod-lt i pos), eq-eqb k k refl)
 
   module _ (plain : List ℕ) (at : ℕ) (bytes : List ℕ) where
-    pub after-at : afterAt w sites plain at bytes (slotOf w sites i * w + i % w)
-        ≡ writtenAt at bytes i (getD plain (slotOf w sites i * w + i % w) 0)
-    after-at =
-        let k : ℕ = slotOf w sites i in
-        rw (offset-of-place, part-of w k (i % w) (mod-lt i pos), eq-eqb k k refl)
+    pub after-at : afterAt w sites plain at bytes (slotOf w sites i * plainRoom + i % w)
+        ≡ writtenAt at bytes i (getD plain (slotOf w sites i * plainRoom + i % w) 0)
+    after-at = rw (place-holds, offset-of-place)
 
-    pub plain-after : length plain ≡ length sites * w
-        → getD (plainAfter w sites plain at bytes) (slotOf w sites i * w + i % w) 0
-        ≡ writtenAt at bytes i (getD plain (slotOf w sites i * w + i % w) 0)
+    pub plain-after : length plain ≡ length sites * plainRoom
+        → getD (plainAfter w sites plain at bytes) (slotOf w sites i * plainRoom + i % w) 0
+        ≡ writtenAt at bytes i (getD plain (slotOf w sites i * plainRoom + i % w) 0)
     unfolding plainAfter
     plain-after size =
-        let l = within-parts w (slotOf w sites i) (i % w) (mod-lt i pos) (length sites) (slot-below w sites i e) in
-        tab-at (length plain) _ 0 _ (omega arith) ∙ after-at
+        tab-at (length plain) _ 0 _ (omega (arith, in-room, slot-below w sites i e)) ∙ after-at
 
 pub length-plain-after : (w : ℕ) (sites plain : List ℕ) (at : ℕ) (bytes : List ℕ)
     → length (plainAfter w sites plain at bytes) ≡ length plain

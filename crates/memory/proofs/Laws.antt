@@ -20,11 +20,12 @@ use Rattle.common.proofs.Tab.{tab-of, tab-ext, tab-set}
 use Rattle.memory.specs.Overlay.{siteOver, slotOf, covered, plainAt, plainOf, laidOver}
 use Rattle.memory.specs.declared.Place.the-variants.{Registers, Window, Nowhere}
 use Rattle.memory.specs.Place.{placeOf}
-use Rattle.memory.specs.Write.{writtenAt, memAfter, offsetOf, plainAfter}
+use Rattle.memory.specs.Write.{writtenAt, memAfter, offsetOf, holdsPlain, plainAfter}
+use Rattle.target.specs.Limits.{plainRoom}
 use Rattle.memory.proofs.Slots.{slot-covers}
 use Rattle.memory.proofs.Bytes.{length-plain, plain-at, no-traps, laid-one, byteOver}
 use Rattle.memory.proofs.Bytes.{written-in, written-before, written-after, written-none, afterAt, after-at}
-use Rattle.memory.proofs.Bytes.{place-of-offset}
+use Rattle.memory.proofs.Bytes.{holds-slot, place-of-offset}
 
 -- ---- a write, one byte after the other
 
@@ -112,43 +113,41 @@ module _ (w : ℕ) (sites mem : List ℕ) (at : ℕ) where
 -- the plain bytes: the byte is stored where a trap stands, in its slot
 module _ (w : ℕ) (sites plain : List ℕ) (at : ℕ) where
   each-plain : (p : ℕ)
-      → ((slotOf w sites (offsetOf w sites p) ≡ p / w)
-      × ((bs : List ℕ) → afterAt w sites plain at bs p ≡ writtenAt at bs (offsetOf w sites p) (getD plain p 0)))
+      → ((slotOf w sites (offsetOf sites p) ≡ p / plainRoom)
+      × ((bs : List ℕ) → afterAt w sites plain at bs p ≡ writtenAt at bs (offsetOf sites p) (getD plain p 0)))
       ⊎ ((bs : List ℕ) → afterAt w sites plain at bs p ≡ getD plain p 0)
   each-plain p =
-      on-test (eqb (slotOf w sites (offsetOf w sites p)) (p / w)) (λ e. inl (eqb-true _ _ e, λ bs. rw e))
-      (λ e. inr (λ bs. rw e))
+      on-test (holdsPlain w sites p) (λ e. inl (holds-slot w sites p e, λ bs. rw e)) (λ e. inr (λ bs. rw e))
 
   pub plain-none : plain ≡ plainAfter w sites plain at []
   unfolding plainAfter
   plain-none = tab-of plain 0 ∙ store-none (length plain) at (afterAt w sites plain at) _ _ _ each-plain
 
-  module _ (pos : 0 < w) (fits : length plain ≤ length sites * w) (bytes : List ℕ) (j : ℕ) (h : j < length bytes) where
+  module _ (fits : length plain ≤ length sites * plainRoom) (bytes : List ℕ) (j : ℕ) (h : j < length bytes) where
     pub plain-kept : covered w sites (at + j) ≡ false
         → plainAfter w sites plain at (take j bytes) ≡ plainAfter w sites plain at (take (j + 1) bytes)
     unfolding plainAfter
     plain-kept e =
         store-nowhere (length plain) at (afterAt w sites plain at) _ _ _ each-plain bytes j h
         (λ p l t q.
-        let s : slotOf w sites (at + j) ≡ p / w = ap (slotOf w sites) (sym q) ∙ t in
-        let b : p / w < length sites = div-lt-iff-lt-mul {k = w} {x = p} {y = length sites} pos .1 (omega arith) in
+        let s : slotOf w sites (at + j) ≡ p / plainRoom = ap (slotOf w sites) (sym q) ∙ t in
         true-or-false (sym e ∙ slot-covers w sites (at + j) (omega arith)))
 
-    pub plain-stored : covered w sites (at + j) ≡ true
-        → set (plainAfter w sites plain at (take j bytes)) (slotOf w sites (at + j) * w + (at + j) % w) (getD bytes j 0)
+    pub plain-stored : 0 < w → w ≤ plainRoom → covered w sites (at + j) ≡ true
+        → set (plainAfter w sites plain at (take j bytes)) (slotOf w sites (at + j) * plainRoom + (at + j) % w) (getD bytes j 0)
         ≡ plainAfter w sites plain at (take (j + 1) bytes)
     unfolding plainAfter
-    plain-stored e =
+    plain-stored pos few e =
         store-at (length plain) at (afterAt w sites plain at) _ _ _ each-plain bytes j h
-        (slotOf w sites (at + j) * w + (at + j) % w) (after-at w pos sites (at + j) e plain at (take (j + 1) bytes))
-        (λ p l t q. place-of-offset w pos sites (at + j) e p t q)
+        (slotOf w sites (at + j) * plainRoom + (at + j) % w) (after-at w pos few sites (at + j) e plain at (take (j + 1) bytes))
+        (λ p l t q. place-of-offset w pos few sites (at + j) e p t q)
 
 -- ---- one slot laid over the others
 
 -- the first slot decides, then the others
 module _ (w s : ℕ) (sites plain : List ℕ) (i old : ℕ) where
   pub byte-head : byteOver w (s ∷ sites) plain i old
-      ≡ cond (eqb (siteOver w i) s) (getD plain (i % w) 0) (byteOver w sites (drop w plain) i old)
+      ≡ cond (eqb (siteOver w i) s) (getD plain (i % w) 0) (byteOver w sites (drop plainRoom plain) i old)
   unfolding covered slotOf firstOf
   byte-head = by (eqb (siteOver w i) s)
     where
@@ -156,15 +155,15 @@ module _ (w s : ℕ) (sites plain : List ℕ) (i old : ℕ) where
       n = slotOf w sites i
 
       by : (b : Bool) →
-          cond (ltb (cond b 0 (suc n)) (suc (length sites))) (getD plain (cond b 0 (suc n) * w + i % w) 0) old
-          ≡ cond b (getD plain (i % w) 0) (cond (ltb n (length sites)) (getD (drop w plain) (n * w + i % w) 0) old)
+          cond (ltb (cond b 0 (suc n)) (suc (length sites))) (getD plain (cond b 0 (suc n) * plainRoom + i % w) 0) old
+          ≡ cond b (getD plain (i % w) 0) (cond (ltb n (length sites)) (getD (drop plainRoom plain) (n * plainRoom + i % w) 0) old)
       by true = rw (lt-ltb 0 (suc (length sites)) (omega arith)) (ap (λ (x : ℕ). getD plain x 0) (omega arith))
       by false =
-          let e : w + (n * w + i % w) ≡ suc n * w + i % w = omega (arith, suc-mul n w) in
-          rw (leb·suc-suc (suc n) (length sites), getD-drop w plain (n * w + i % w) 0, e)
+          let e : plainRoom + (n * plainRoom + i % w) ≡ suc n * plainRoom + i % w = omega (arith, suc-mul n plainRoom) in
+          rw (leb·suc-suc (suc n) (length sites), getD-drop plainRoom plain (n * plainRoom + i % w) 0, e)
 
 plain-head : (w s : ℕ) (sites plain mem : List ℕ) (i : ℕ) → plainAt w (s ∷ sites) plain mem i
-    ≡ cond (eqb (siteOver w i) s) (getD plain (i % w) 0) (plainAt w sites (drop w plain) mem i)
+    ≡ cond (eqb (siteOver w i) s) (getD plain (i % w) 0) (plainAt w sites (drop plainRoom plain) mem i)
 unfolding plainAt
 plain-head w s sites plain mem i = byte-head w s sites plain i (getD mem i 0)
 
@@ -177,38 +176,37 @@ plain-past w sites plain mem k h =
 module _ (t mem : List ℕ) (pos : 0 < length t) where
   -- the first slot's plain bytes laid over plain memory of the others
   plain-over : (s : ℕ) (sites plain : List ℕ) → ((r : ℕ) → r < length t → getD t r 0 ≡ getD plain r 0)
-      → laidOver t (s ∷ []) (plainOf (length t) sites (drop (length t) plain) mem) ≡ plainOf (length t) (s ∷ sites)
+      → laidOver t (s ∷ []) (plainOf (length t) sites (drop plainRoom plain) mem) ≡ plainOf (length t) (s ∷ sites)
       plain mem
   plain-over s sites plain e =
       laid-one t s others (plainOf w (s ∷ sites) plain mem) (length-plain w (s ∷ sites) plain mem ∙ sym size)
       (λ i h q. whole i (omega (arith, size)) ∙ rw (eq-eqb (siteOver w i) s q) (sym (e (i % w) (mod-lt i pos))))
       (λ i h q. whole i (omega (arith, size)) ∙ rw (ne-eqb (siteOver w i) s q)
-      (sym (plain-at w sites (drop w plain) mem i (omega (arith, size)))))
+      (sym (plain-at w sites (drop plainRoom plain) mem i (omega (arith, size)))))
     where
       w : ℕ
       w = length t
 
       others : List ℕ
-      others = plainOf w sites (drop w plain) mem
+      others = plainOf w sites (drop plainRoom plain) mem
 
       size : length others ≡ length mem
-      size = length-plain w sites (drop w plain) mem
+      size = length-plain w sites (drop plainRoom plain) mem
 
       whole : (i : ℕ) → i < length mem → getD (plainOf w (s ∷ sites) plain mem) i 0
-          ≡ cond (eqb (siteOver w i) s) (getD plain (i % w) 0) (plainAt w sites (drop w plain) mem i)
+          ≡ cond (eqb (siteOver w i) s) (getD plain (i % w) 0) (plainAt w sites (drop plainRoom plain) mem i)
       whole i h = plain-at w (s ∷ sites) plain mem i h ∙ plain-head w s sites plain mem i
 
   -- the same of slot k and those after it
   pub plain-from : (sites plain : List ℕ) (k : ℕ) → k < length sites
-      → ((r : ℕ) → r < length t → getD t r 0 ≡ getD plain (k * length t + r) 0)
-      → laidOver t (getD sites k 0 ∷ []) (plainOf (length t) (drop (k + 1) sites) (drop ((k + 1) * length t) plain) mem)
-      ≡ plainOf (length t) (drop k sites) (drop (k * length t) plain) mem
+      → ((r : ℕ) → r < length t → getD t r 0 ≡ getD plain (k * plainRoom + r) 0)
+      → laidOver t (getD sites k 0 ∷ []) (plainOf (length t) (drop (k + 1) sites) (drop ((k + 1) * plainRoom) plain) mem)
+      ≡ plainOf (length t) (drop k sites) (drop (k * plainRoom) plain) mem
   plain-from sites plain k h e =
-      let w : ℕ = length t in
-      let n : (k + 1) * w ≡ k * w + w = ap (λ (x : ℕ). x * w) (add-one k) ∙ suc-mul k w in
-      rw (n, ← drop-drop w (k * w) plain, add-one, drop-cons sites k 0 h)
-      (plain-over (getD sites k 0) (drop (suc k) sites) (drop (k * w) plain) (λ r l. e r l
-      ∙ sym (getD-drop (k * w) plain r 0)))
+      let n : (k + 1) * plainRoom ≡ k * plainRoom + plainRoom = omega arith in
+      rw (n, ← drop-drop plainRoom (k * plainRoom) plain, add-one, drop-cons sites k 0 h)
+      (plain-over (getD sites k 0) (drop (suc k) sites) (drop (k * plainRoom) plain) (λ r l. e r l
+      ∙ sym (getD-drop (k * plainRoom) plain r 0)))
 
 -- ---- where the bytes that an address names lie
 

@@ -1,5 +1,6 @@
 pub mod Site
 pub mod Slots
+pub mod Lawful
 pub mod Bytes
 pub mod Laws
 pub mod Parts

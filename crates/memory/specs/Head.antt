@@ -1,19 +1,26 @@
--- What an instruction set fixes, as far as the stub looks at it. The rules and the book are stated over any; 01 has the
--- house's.
-use Prim.Native.Nat.{ℕ}
+-- What an instruction set fixes, as far as the stub looks at it. The rules and the book are stated over any head whose
+-- trap has a lawful length; 01 has the house's, 02, Ten, one of four bytes.
+use mathlib.Core.Path.{_≡_}
+use Prim.Native.Nat.{ℕ, _%_, _≤_}
 use mathlib.Core.List.{List, [], _∷_}
+use lib.ListN.{length}
 use Rattle.common.specs.Bytes.{ofLowFirst}
+use Rattle.target.specs.Limits.{plainRoom}
 
--- the two bytes of the trap, in memory's order, and the value of a word's bytes as they stand in memory
+-- the bytes of the trap, and the value of a word's bytes, both as they stand in memory
 pub record Head : Type 0 where
-  pub first : ℕ
-  pub second : ℕ
+  pub trap : List ℕ
   pub word : List ℕ → ℕ
 
--- the trap, as it stands in memory
-abbrev pub trapBytes : Head → List ℕ
-trapBytes h = h .first ∷ h .second ∷ []
+-- how many bytes the trap has
+abbrev pub width : Head → ℕ
+width h = length (h .trap)
+
+-- traps stand at multiples of their length, which divides an entry's room for plain bytes: two bytes or four
+pub record Lawful (h : Head) : Type 0 where
+  pub least : 2 ≤ width h
+  pub divides : plainRoom % width h ≡ 0
 
 -- 01, "Trap": "the halfword 0x9002 (c.ebreak), in memory the bytes 02 90"; words are "low-order first"
 abbrev pub house : Head
-house = record { first = 0x02; second = 0x90; word = ofLowFirst }
+house = record { trap = 0x02 ∷ 0x90 ∷ []; word = ofLowFirst }

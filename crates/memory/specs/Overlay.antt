@@ -3,7 +3,7 @@
 -- Over any trap of w bytes that stands at multiples of w: the one site that can cover an offset is the multiple at or
 -- below it.
 -- A table is given by its slots' sites (offsets; a free slot has one that is no multiple of w and covers nothing) and
--- by its slots' plain bytes, w for each slot, one slot after the other.
+-- by its slots' plain bytes: each slot has room for four, one slot after the other, of which the first w are they.
 use Prim.Native.Nat.{ℕ, _+_, _-_, _*_, _%_}
 use mathlib.Core.Bool.{Bool, cond}
 use mathlib.Core.List.{List}
@@ -11,6 +11,7 @@ use lib.Dec.{ltb, eqb}
 use lib.ListN.{length, getD}
 use Rattle.common.specs.First.{firstOf}
 use Rattle.common.specs.Tab.{tab}
+use Rattle.target.specs.Limits.{plainRoom}
 
 -- the site of a free slot: odd, so no offset's
 abbrev pub freeSite : ℕ
@@ -31,7 +32,7 @@ covered w sites i = ltb (slotOf w sites i) (length sites)
 -- the plain byte at offset i: the slot's where a trap stands, else memory's
 unfoldable pub plainAt : ℕ → List ℕ → List ℕ → List ℕ → ℕ → ℕ
 plainAt w sites plain mem i =
-    cond (covered w sites i) (getD plain (slotOf w sites i * w + i % w) 0) (getD mem i 0)
+    cond (covered w sites i) (getD plain (slotOf w sites i * plainRoom + i % w) 0) (getD mem i 0)
 
 -- plain memory, the whole window
 unfoldable pub plainOf : ℕ → List ℕ → List ℕ → List ℕ → List ℕ

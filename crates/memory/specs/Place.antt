@@ -13,9 +13,10 @@ unfoldable pub placeOf : ℕ → ℕ → ℕ → ℕ → Place
 placeOf base size a n =
     cond (leb (a + n) blockSize) Registers (cond (leb base a && leb (a + n) (base + size)) Window Nowhere)
 
--- an address at which a trap can stand: "each site is even, has both bytes in the window"
-unfoldable pub isSite : ℕ → ℕ → ℕ → Bool
-isSite base size a = eqb (a % 2) 0 && leb base a && leb (a - base + 2) size
+-- an address at which a trap of w bytes can stand: "each site is even, has both bytes in the window"; 02, Ten: "sites
+-- are multiples of 4"
+unfoldable pub isSite : ℕ → ℕ → ℕ → ℕ → Bool
+isSite w base size a = eqb (a % w) 0 && leb base a && leb (a - base + w) size
 
 -- "The stretch an address names is one part of the register area or of the window"
 unfoldable pub stretchOf : Place → List ℕ → List ℕ → ℕ → ℕ → ℕ → List ℕ

@@ -6,6 +6,7 @@ use lib.Dec.{ltb, eqb}
 use lib.ListN.{length, getD}
 use Rattle.common.specs.Every.{every}
 use Rattle.common.specs.Tab.{tab}
+use Rattle.target.specs.Limits.{plainRoom}
 use Rattle.memory.specs.Overlay.{siteOver, slotOf, covered}
 
 -- it meets a site: one of its bytes is under a trap
@@ -32,5 +33,5 @@ laidFrom t site at n l =
 unfoldable pub laidAll : ℕ → List ℕ → List ℕ → ℕ → ℕ → List ℕ → List ℕ
 laidAll w sites plain at n l =
     tab (length l)
-    (λ j. cond (ltb j n && covered w sites (at + j)) (getD plain (slotOf w sites (at + j) * w + (at + j) % w) 0)
+    (λ j. cond (ltb j n && covered w sites (at + j)) (getD plain (slotOf w sites (at + j) * plainRoom + (at + j) % w) 0)
     (getD l j 0))

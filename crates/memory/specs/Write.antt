@@ -1,11 +1,12 @@
 -- 01, Tmget and Tmput in the window: reads answer plain bytes; "a byte under a trap goes to the entry's plain bytes and
 -- the trap stays".
 use Prim.Native.Nat.{ℕ, _+_, _-_, _*_, _/_, _%_}
-use mathlib.Core.Bool.{cond, _&&_}
+use mathlib.Core.Bool.{Bool, cond, _&&_}
 use mathlib.Core.List.{List}
 use lib.Dec.{leb, ltb, eqb}
 use lib.ListN.{length, getD}
 use Rattle.common.specs.Tab.{tab}
+use Rattle.target.specs.Limits.{plainRoom}
 use Rattle.memory.specs.Overlay.{slotOf, covered, plainAt}
 
 -- "answers n bytes, then zeros": n bytes of a list from place at on, in a list of m
@@ -22,7 +23,7 @@ partRead w sites plain part at m =
     tab m
     (λ j.
     cond (ltb j (length part))
-    (cond (covered w sites (at + j)) (getD plain (slotOf w sites (at + j) * w + (at + j) % w) 0) (getD part j 0))
+    (cond (covered w sites (at + j)) (getD plain (slotOf w sites (at + j) * plainRoom + (at + j) % w) 0) (getD part j 0))
     0)
 
 -- what offset i holds once bytes are written from offset at on, where it held old
@@ -38,13 +39,16 @@ unfoldable pub memAfter : ℕ → List ℕ → List ℕ → ℕ → List ℕ →
 memAfter w sites mem at bytes =
     tab (length mem) (λ i. cond (covered w sites i) (getD mem i 0) (writtenAt at bytes i (getD mem i 0)))
 
--- the offset that plain byte j is for: byte j % w of slot j / w
-unfoldable pub offsetOf : ℕ → List ℕ → ℕ → ℕ
-offsetOf w sites j = getD sites (j / w) 0 + j % w
+-- the offset that place j of the slots' bytes is for: byte j % 4 of slot j / 4
+unfoldable pub offsetOf : List ℕ → ℕ → ℕ
+offsetOf sites j = getD sites (j / plainRoom) 0 + j % plainRoom
 
--- the plain bytes after a write: those of the slot that covers their offset are written
+-- it holds a plain byte: it is one of the first w of its slot, and the slot covers that offset
+unfoldable pub holdsPlain : ℕ → List ℕ → ℕ → Bool
+holdsPlain w sites j = ltb (j % plainRoom) w && eqb (slotOf w sites (offsetOf sites j)) (j / plainRoom)
+
+-- the slots' bytes after a write: plain bytes are written, the others stay
 unfoldable pub plainAfter : ℕ → List ℕ → List ℕ → ℕ → List ℕ → List ℕ
 plainAfter w sites plain at bytes =
     tab (length plain)
-    (λ j. cond (eqb (slotOf w sites (offsetOf w sites j)) (j / w)) (writtenAt at bytes (offsetOf w sites j) (getD plain
-    j 0)) (getD plain j 0))
+    (λ j. cond (holdsPlain w sites j) (writtenAt at bytes (offsetOf sites j) (getD plain j 0)) (getD plain j 0))

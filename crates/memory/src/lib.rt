@@ -1,7 +1,8 @@
 // The window under traps: plain bytes, writes, and laying bytes over a site. Reads of stretches are in `memory_read`.
 //
 // Everything goes by offset into the window. A table of breakpoints is given by two small arrays: the slots' sites,
-// where a free slot has the odd site 1, and the slots' plain bytes, two for each slot.
+// where a free slot has the odd site 1, and the slots' plain bytes, for which each has the room of an entry.
+use target::Entry;
 use target::Table;
 ghost use mathlib.Core.Path.{_≡_};
 ghost use mathlib.Core.List.{_∷_, []};
@@ -54,7 +55,7 @@ pub fn plain_at(
     let all = &sites[..];
     let k = slot_of(sites, at);
     if k < all.len() {
-        return plain[2 * k + at % 2];
+        return plain[Entry::ROOM * k + at % 2];
     }
     if at < mem.len() {
         return mem[at];
@@ -82,7 +83,7 @@ pub fn write(
         let i = at + j;
         let k = slot_of(sites, i);
         if k < all.len() {
-            kept[2 * k + i % 2] = bytes[j];
+            kept[Entry::ROOM * k + i % 2] = bytes[j];
         } else {
             mem[i] = bytes[j];
         }
@@ -114,6 +115,6 @@ pub fn restore(mem: &mut [u8], sites: &[u32; Table::ENTRIES], plain: &[u8; Table
     let mut k: usize = Table::ENTRIES;
     while 0 < k {
         k -= 1;
-        lay(mem, all[k] as usize, plain[2 * k], plain[2 * k + 1]);
+        lay(mem, all[k] as usize, plain[Entry::ROOM * k], plain[Entry::ROOM * k + 1]);
     }
 }

@@ -10,6 +10,7 @@ use Rattle.common.proofs.Cases.{on-same}
 use Rattle.common.proofs.Fill.{fill-ext}
 use Rattle.common.proofs.Same.{true-or-false}
 use Rattle.common.proofs.Tab.{tab-ext}
+use Rattle.target.specs.Limits.{plainRoom}
 use Rattle.memory.specs.Overlay.{covered, plainAt, plainOf, laidAt, laidOver}
 use Rattle.memory.specs.Write.{bytesAt, plainRead, writtenAt, overwritten, memAfter, plainAfter}
 use Rattle.memory.proofs.Site.{Free}
@@ -45,15 +46,15 @@ read-plain w sites plain mem at n m fits =
     (λ j h. sym (plain-at w sites plain mem (at + j) (omega arith)))
 
 -- a read after a write: a write puts its bytes into plain memory and changes nothing else there
-pub plain-written : (w : ℕ) (sites plain mem : List ℕ) (at : ℕ) (bytes : List ℕ) → 0 < w → length plain
-    ≡ length sites * w
+pub plain-written : (w : ℕ) (sites plain mem : List ℕ) (at : ℕ) (bytes : List ℕ) → 0 < w → w ≤ plainRoom
+    → length plain ≡ length sites * plainRoom
     → plainOf w sites (plainAfter w sites plain at bytes) (memAfter w sites mem at bytes)
     ≡ overwritten (plainOf w sites plain mem) at bytes
-plain-written w sites plain mem at bytes pos fits =
+plain-written w sites plain mem at bytes pos few fits =
     plain-is w sites (plainAfter w sites plain at bytes) (memAfter w sites mem at bytes) (overwritten old at bytes)
     (length-overwritten old at bytes ∙ size ∙ sym after)
     (λ i h e. now i (omega (arith, after)) ∙ rw (plain-under w sites plain mem i e)
-    (sym (plain-after w pos sites i e plain at bytes fits)))
+    (sym (plain-after w pos few sites i e plain at bytes fits)))
     (λ i h e. now i (omega (arith, after)) ∙ rw (plain-bare w sites plain mem i e)
     (sym (mem-bare w sites mem at bytes i (omega (arith, after)) e)))
   where

@@ -10,6 +10,7 @@ use native.Mathlib.Omega.{arith}
 use lib.ListN.{length, getD, set, length-set}
 use lib.Seq.{getD-set-same, getD-set-other}
 use Rattle.common.proofs.Same.{true-or-false}
+use Rattle.target.specs.Limits.{plainRoom}
 use Rattle.memory.specs.Overlay.{siteOver, slotOf, covered, plainAt, plainOf, laidOver}
 use Rattle.common.proofs.Cases.{on-same}
 use Rattle.memory.proofs.Site.{site-place, Free}
@@ -22,13 +23,13 @@ use Rattle.memory_laws.proofs.Planted.{Planted, planted-at, planted-by}
 -- the plain bytes of every slot but k are as they were
 abbrev pub KeptBut : ℕ → List ℕ → ℕ → List ℕ → List ℕ → Type 0
 KeptBut w sites k plain plain′ =
-    (j r : ℕ) → j < length sites → r < w → (j ≡ k → ⊥) → getD plain′ (j * w + r) 0 ≡ getD plain (j * w + r) 0
+    (j r : ℕ) → j < length sites → r < w → (j ≡ k → ⊥) → getD plain′ (j * plainRoom + r) 0 ≡ getD plain (j * plainRoom + r) 0
 
 -- an offset that has the slot that it had, which is not k, has the plain byte that it had
 kept-at : (w : ℕ) (sites plain plain′ mem : List ℕ) (k z i : ℕ) → 0 < w → KeptBut w sites k plain plain′
     → covered w (set sites k z) i ≡ true → slotOf w (set sites k z) i ≡ slotOf w sites i
     → (siteOver w i ≡ getD sites k 0 → ⊥)
-    → plainAt w sites plain mem i ≡ getD plain′ (slotOf w (set sites k z) i * w + i % w) 0
+    → plainAt w sites plain mem i ≡ getD plain′ (slotOf w (set sites k z) i * plainRoom + i % w) 0
 kept-at w sites plain plain′ mem k z i pos kept e q n =
     let c : covered w sites i ≡ true = sym (covered-same w sites k z i q) ∙ e in
     let o : slotOf w sites i ≡ k → ⊥ = λ y. n (sym (slot-site w sites i c) ∙ ap (λ (j : ℕ). getD sites j 0) y) in
@@ -38,7 +39,7 @@ kept-at w sites plain plain′ mem k z i pos kept e q n =
 -- plain memory is as it was where each plain byte that was is the slot's now, or memory's where no trap stands now
 same-plain : (w : ℕ) (sites plain mem sites′ plain′ mem′ : List ℕ) → length mem′ ≡ length mem
     → ((i : ℕ) → i < length mem → covered w sites′ i ≡ true
-    → plainAt w sites plain mem i ≡ getD plain′ (slotOf w sites′ i * w + i % w) 0)
+    → plainAt w sites plain mem i ≡ getD plain′ (slotOf w sites′ i * plainRoom + i % w) 0)
     → ((i : ℕ) → i < length mem → covered w sites′ i ≡ false → plainAt w sites plain mem i ≡ getD mem′ i 0)
     → plainOf w sites′ plain′ mem′ ≡ plainOf w sites plain mem
 same-plain w sites plain mem sites′ plain′ mem′ size under bare =
@@ -51,7 +52,7 @@ same-plain w sites plain mem sites′ plain′ mem′ size under bare =
 module _ (t sites mem : List ℕ) (k s : ℕ) (free : Free (length t) (getD sites k 0)) where
   -- planting leaves plain memory as it was; the slot's plain bytes are those of the moment
   pub planted-plain : (plain plain′ : List ℕ) → 0 < length t → k < length sites
-      → ((r : ℕ) → r < length t → getD plain′ (k * length t + r) 0 ≡ plainAt (length t) sites plain mem (s + r))
+      → ((r : ℕ) → r < length t → getD plain′ (k * plainRoom + r) 0 ≡ plainAt (length t) sites plain mem (s + r))
       → KeptBut (length t) sites k plain plain′
       → plainOf (length t) (set sites k s) plain′ (laidOver t (s ∷ []) mem) ≡ plainOf (length t) sites plain mem
   planted-plain plain plain′ pos below fresh kept =
@@ -73,7 +74,7 @@ module _ (t sites mem : List ℕ) (k s : ℕ) (free : Free (length t) (getD site
       new = getD-set-same sites k s 0 below
 
       here : (i : ℕ) → covered w sites′ i ≡ true → slotOf w sites′ i ≡ k
-          → plainAt w sites plain mem i ≡ getD plain′ (slotOf w sites′ i * w + i % w) 0
+          → plainAt w sites plain mem i ≡ getD plain′ (slotOf w sites′ i * plainRoom + i % w) 0
       here i e q =
           let site : siteOver w i ≡ s = sym (slot-site w sites′ i e) ∙ ap (λ (j : ℕ). getD sites′ j 0) q ∙ new in
           let place : i ≡ s + i % w = omega (arith, site-place w i) in
@@ -121,7 +122,7 @@ module _ (w : ℕ) (sites mem b : List ℕ) (k z : ℕ) (wide : length b ≡ w) 
   same-byte i h = rw wide at (laid-away b s mem i h)
 
   -- removing leaves plain memory as it was
-  pub removed-plain : (plain plain′ : List ℕ) → 0 < w → ((r : ℕ) → r < w → getD b r 0 ≡ getD plain (k * w + r) 0)
+  pub removed-plain : (plain plain′ : List ℕ) → 0 < w → ((r : ℕ) → r < w → getD b r 0 ≡ getD plain (k * plainRoom + r) 0)
       → KeptBut w sites k plain plain′
       → plainOf w (set sites k z) plain′ (laidOver b (getD sites k 0 ∷ []) mem) ≡ plainOf w sites plain mem
   removed-plain plain plain′ pos bytes kept =

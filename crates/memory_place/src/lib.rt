@@ -25,7 +25,7 @@ pub fn place_of(base: u32, size: u32, address: u32, n: u8) -> Place
 
 // Whether a trap can stand at an address: it is even, and both bytes there lie in the window.
 pub fn is_site(base: u32, size: usize, address: u32) -> bool
-    ensures { λ r. ⌜ r ≡ isSite base size address ⌝ }
+    ensures { λ r. ⌜ r ≡ isSite 2 base size address ⌝ }
 {
     if address % 2 != 0 {
         return false;

@@ -17,6 +17,7 @@ use Rattle.common.proofs.Cases.{on-test, on-same, on-less}
 use Rattle.common.proofs.Every.{every-all, every-at, every-fails}
 use Rattle.common.proofs.Same.{true-or-false, parts}
 use Rattle.common.proofs.Tab.{length-tab, tab-at, tab-is}
+use Rattle.target.specs.Limits.{plainRoom}
 use Rattle.memory.specs.Overlay.{siteOver, slotOf, covered}
 use Rattle.memory.specs.Read.{meets, touches, putFrom, laidFrom, laidAll}
 use Rattle.memory.specs.Write.{bytesAt, partRead}
@@ -172,7 +173,7 @@ module _ (w : ℕ) (plain : List ℕ) (at n : ℕ) (l : List ℕ) where
 -- the first slot's bytes laid over what the others give
 module _ (t : List ℕ) (at n : ℕ) (l : List ℕ) where
   all-over : (s : ℕ) (sites plain : List ℕ) → ((r : ℕ) → r < length t → getD t r 0 ≡ getD plain r 0) → 0 < length t
-      → laidFrom t s at n (laidAll (length t) sites (drop (length t) plain) at n l)
+      → laidFrom t s at n (laidAll (length t) sites (drop plainRoom plain) at n l)
       ≡ laidAll (length t) (s ∷ sites) plain at n l
   unfolding laidFrom
   all-over s sites plain e pos =
@@ -182,21 +183,21 @@ module _ (t : List ℕ) (at n : ℕ) (l : List ℕ) where
       w = length t
 
       others : List ℕ
-      others = laidAll w sites (drop w plain) at n l
+      others = laidAll w sites (drop plainRoom plain) at n l
 
       whole : List ℕ
       whole = laidAll w (s ∷ sites) plain at n l
 
       size : length others ≡ length l
-      size = length-all w (drop w plain) at n l sites
+      size = length-all w (drop plainRoom plain) at n l sites
 
       place : (j : ℕ) → j < length others → getD whole j 0
           ≡ cond (ltb j n && eqb (siteOver w (at + j)) s) (getD t ((at + j) % w) 0) (getD others j 0)
       place j h =
           let i = at + j in
           let old = getD l j 0 in
-          let before : getD others j 0 ≡ cond (ltb j n) (byteOver w sites (drop w plain) i old) old =
-          all-at w (drop w plain) at n l sites j (rw size at h) in
+          let before : getD others j 0 ≡ cond (ltb j n) (byteOver w sites (drop plainRoom plain) i old) old =
+          all-at w (drop plainRoom plain) at n l sites j (rw size at h) in
           let after : getD whole j 0 ≡ cond (ltb j n) (byteOver w (s ∷ sites) plain i old) old =
           all-at w plain at n l (s ∷ sites) j (rw size at h) in
           after ∙ on-test (ltb j n)
@@ -205,16 +206,16 @@ module _ (t : List ℕ) (at n : ℕ) (l : List ℕ) where
 
   -- the same of slot k and those after it
   pub all-from : (sites plain : List ℕ) (k : ℕ) → k < length sites → 0 < length t
-      → ((r : ℕ) → r < length t → getD t r 0 ≡ getD plain (k * length t + r) 0)
+      → ((r : ℕ) → r < length t → getD t r 0 ≡ getD plain (k * plainRoom + r) 0)
       → laidFrom t (getD sites k 0) at n
-      (laidAll (length t) (drop (k + 1) sites) (drop ((k + 1) * length t) plain) at n l)
-      ≡ laidAll (length t) (drop k sites) (drop (k * length t) plain) at n l
+      (laidAll (length t) (drop (k + 1) sites) (drop ((k + 1) * plainRoom) plain) at n l)
+      ≡ laidAll (length t) (drop k sites) (drop (k * plainRoom) plain) at n l
   all-from sites plain k h pos e =
       let w : ℕ = length t in
-      let m : (k + 1) * w ≡ k * w + w = ap (λ (x : ℕ). x * w) (add-one k) ∙ suc-mul k w in
-      rw (m, ← drop-drop w (k * w) plain, add-one, drop-cons sites k 0 h)
-      (all-over (getD sites k 0) (drop (suc k) sites) (drop (k * w) plain) (λ r g. e r g
-      ∙ sym (getD-drop (k * w) plain r 0)) pos)
+      let m : (k + 1) * plainRoom ≡ k * plainRoom + plainRoom = omega arith in
+      rw (m, ← drop-drop plainRoom (k * plainRoom) plain, add-one, drop-cons sites k 0 h)
+      (all-over (getD sites k 0) (drop (suc k) sites) (drop (k * plainRoom) plain) (λ r g. e r g
+      ∙ sym (getD-drop (k * plainRoom) plain r 0)) pos)
 
 -- ---- reads
 

@@ -1,5 +1,6 @@
 // Reads of a stretch of the window. Its bytes are copied straight through, by a function that is handed two slices and
 // nothing else; only where the stretch meets a site are the slots' plain bytes laid over it, slot by slot.
+use target::Entry;
 use target::Table;
 ghost use mathlib.Core.Path.{_≡_};
 ghost use mathlib.Core.List.{_∷_, []};
@@ -85,7 +86,7 @@ fn lay_all(
     let mut k: usize = Table::ENTRIES;
     while 0 < k {
         k -= 1;
-        lay(out, at, n, all[k], plain[2 * k], plain[2 * k + 1]);
+        lay(out, at, n, all[k], plain[Entry::ROOM * k], plain[Entry::ROOM * k + 1]);
     }
 }
 

@@ -11,6 +11,7 @@ use Rattle.rules.specs.Step.{Setup}
 use Rattle.rules.specs.Claim.{Stub, stubOf, Action, step, change, Claim}
 use Rattle.rules.specs.Outcome.{World, world}
 use Rattle.rules.specs.Step.{Step, stepOf}
+use Rattle.memory.proofs.Lawful.{house-lawful}
 use Rattle.rules.proofs.Theorem.{demand3}
 use Rattle.target.specs.View.{Target, viewOf}
 use Rattle.program_run.specs.declared.Ran.{Ran}
@@ -83,7 +84,7 @@ run-agrees w input s es left =
     let z = after-joined s (firstMoment s) es (map step (q .steps)) in
     let memory : q .after .mem ≡ afterActions s (firstMoment s) all .mem = rw z (sym (same .memory)) in (
       record { accepted = left .accepted; allowed = allowed; target = rw z (sym (same .target)); memory = memory },
-      memory ∙ at-end s (firstMoment s) _ all (demand3 house s (left .accepted) all) allowed,
+      memory ∙ at-end s (firstMoment s) _ all (demand3 house house-lawful s (left .accepted) all) allowed,
     )
 
 within-book : (w : World) (input : List ℕ) (room : ℕ)

@@ -8,6 +8,7 @@ use native.Mathlib.Omega.{arith}
 use lib.ListN.{length, getD, take, drop, set, length-drop, drop-of-length-le}
 use lib.Seq.{drop-cons, drop-drop, set-split}
 use Rattle.common.proofs.Lists.{part-to-end}
+use Rattle.memory.specs.Head.{house}
 use Rattle.rules.specs.Outcome.{World, world, Outcome, shown}
 use Rattle.target.specs.declared.Target.{Target}
 use Rattle.target.specs.View.{viewOf}
@@ -131,7 +132,7 @@ module _ (q : Run) (input before : List ℕ) (t : Target) (words old area : List
             (take filled after ++ part)
         unfolding once followedBy
         stepped s few =
-            let bytes = shown after-step in
+            let bytes = shown house after-step in
             let long : r .filled ≡ length bytes = s .writes .filled in
             let new =
             writes-behind before after (g .done .output) filled (g .writes) (omega (arith, g .room)) bytes part

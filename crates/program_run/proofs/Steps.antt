@@ -27,11 +27,11 @@ use Rattle.program_run.specs.Written.{Writes, Steps}
 
 -- ---- a step shows fourteen bytes at most
 
-pub length-answer : (a : Answer) → length (answerBytes a) ≤ answerMost
+pub length-answer : (a : Answer) → length (answerBytes house a) ≤ answerMost
 unfolding answerBytes
 length-answer Nothing = omega arith
 length-answer (Stop id) = omega arith
-length-answer (Pass x y) = omega arith
+length-answer (Pass b0 b1 b2 b3) = omega arith
 length-answer Yes = omega arith
 length-answer No = omega arith
 
@@ -46,7 +46,7 @@ short t mem (scheduleEvent regs pid block) r = rw (r .none) (omega arith)
 short t mem (stateEvent regs pid value) r = rw (r .none) (omega arith)
 short t mem (restartStep regs reply) r = omega (arith, r .ten)
 
-pub shown-most : (t : Target) (mem : List ℕ) (e : Step) → length (shown (stepOf house t mem e)) ≤ stepMost
+pub shown-most : (t : Target) (mem : List ℕ) (e : Step) → length (shown house (stepOf house t mem e)) ≤ stepMost
 unfolding shown shownWith
 shown-most t mem e =
     let o = stepOf house t mem e in
@@ -54,7 +54,7 @@ shown-most t mem e =
     (λ h. rw h (omega (
       arith,
       short t mem e (replies house t mem e (eqb-true (o .number) 0 h)),
-      length-append (o .reply) (answerBytes (o .answer)),
+      length-append (o .reply) (answerBytes house (o .answer)),
       length-answer (o .answer),
     )))
     (λ h. rw h (omega arith))
@@ -115,7 +115,7 @@ steps-few w kind body r words mem regs before after s =
 module _ (o : Outcome) (number : ℕ) (answer : Answer) (r : Stepped) (words mem regs before after : List ℕ) where
   pub steps-shown : (t : StoredTarget) (reply : List ℕ)
       → outcome number answer (world (viewOf t words) mem regs) reply ≡ o
-      → (r .target ≡ t) × Writes (shownWith number (reply ++ answerBytes answer)) (r .filled) before after
+      → (r .target ≡ t) × Writes (shownWith number (reply ++ answerBytes house answer)) (r .filled) before after
       → Steps o r words mem regs before after
   unfolding shown
   steps-shown t reply e h = record { world = rw (h .0) (ap (λ (x : Outcome). x .after) e); writes = rw (← e) (h .1) }

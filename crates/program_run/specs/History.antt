@@ -44,7 +44,7 @@ afterActions s m (e ∷ es) = afterActions s (afterAction s m e) es
 -- which actions are taken: every step, and an outside change where no trap lies
 unfoldable pub Allowed : Setup → Moment → Action → Type 0
 Allowed s m (step e) = Unit
-Allowed s m (change i byte) = underTrap s (m .book) i ≡ false
+Allowed s m (change i byte) = underTrap house s (m .book) i ≡ false
 
 -- each action is taken at its moment
 unfoldable pub EachAllowed : Setup → Moment → List Action → Type 0

@@ -4,6 +4,7 @@ use mathlib.Core.Bool.{Bool, true, false, cond}
 use mathlib.Core.List.{List, [], _∷_, _++_}
 use lib.Dec.{leb}
 use lib.ListN.{length, take, drop}
+use Rattle.memory.specs.Head.{house}
 use Rattle.rules.specs.Outcome.{World, Outcome}
 use Rattle.rules.specs.Step.{Step}
 use Rattle.program_run.specs.declared.End.{End}
@@ -45,7 +46,7 @@ ended w end = record { after = w; used = 0; output = endBytes end; end = end; st
 
 -- one step, which took so many bytes
 unfoldable pub once : ℕ → Step → Outcome → Run
-once used e o = record { after = o .after; used = used; output = shown o; end = UsedUp; steps = e ∷ [] }
+once used e o = record { after = o .after; used = used; output = shown house o; end = UsedUp; steps = e ∷ [] }
 
 -- a run, and one that begins where it stopped
 unfoldable pub followedBy : Run → Run → Run

@@ -5,6 +5,7 @@ use mathlib.Core.Path.{_≡_}
 use mathlib.Core.List.{List}
 use lib.ListN.{length}
 use Rattle.memory.specs.Write.{overwritten}
+use Rattle.memory.specs.Head.{house}
 use Rattle.rules.specs.Outcome.{World, world, Outcome, shown}
 use Rattle.target.specs.View.{viewOf}
 use Rattle.program_run.specs.declared.Ran.{Ran}
@@ -19,7 +20,7 @@ pub record Writes (bytes : List ℕ) (n : ℕ) (before after : List ℕ) : Type 
 
 pub record Steps (o : Outcome) (r : Stepped) (words mem regs before after : List ℕ) : Type 0 where
   pub world : world (viewOf (r .target) words) mem regs ≡ o .after
-  pub writes : Writes (shown o) (r .filled) before after
+  pub writes : Writes (shown house o) (r .filled) before after
 
 pub record Runs (q : Run) (r : Ran) (words mem regs before after : List ℕ) : Type 0 where
   pub world : world (viewOf (r .target) words) mem regs ≡ q .after

@@ -10,6 +10,7 @@ ghost use Prim.Native.Nat.{_+_, _≤_, _<_};
 ghost use mathlib.Core.List.{[], _++_};
 ghost use lib.ListN.{length, getD, drop, replicate};
 ghost use Rattle.common.specs.Bytes.{wordAt};
+ghost use Rattle.memory.specs.Head.{house};
 ghost use Rattle.rules.specs.Outcome.{world, answerBytes, shownWith};
 ghost use Rattle.step.specs.Kinds.{stepBy};
 ghost use Rattle.target.specs.View.{viewOf};
@@ -86,7 +87,7 @@ fn body_of(kind: StepKind) -> usize
 // Writes the bytes of an answer, and says how many they are.
 fn show_answer(answer: Answer, out: &mut [u8]) -> usize
     requires { ⌜ answerMost ≤ length (now out) ⌝ }
-    ensures { λ r. ⌜ Writes (answerBytes answer) r (now (out .entry)) (now (out .exit)) ⌝ }
+    ensures { λ r. ⌜ Writes (answerBytes house answer) r (now (out .entry)) (now (out .exit)) ⌝ }
 {
     match answer {
         Answer::Nothing => 0,
@@ -95,7 +96,7 @@ fn show_answer(answer: Answer, out: &mut [u8]) -> usize
             out[1] = id;
             2
         }
-        Answer::Pass(x, y) => {
+        Answer::Pass(x, y, _, _) => {
             out[0] = 2;
             out[1] = x;
             out[2] = y;
@@ -115,7 +116,7 @@ fn show_answer(answer: Answer, out: &mut [u8]) -> usize
 // Writes a reply and then an answer.
 fn show_reply(reply: &[u8], answer: Answer, out: &mut [u8]) -> usize
     requires { ⌜ length (now reply) + answerMost ≤ length (now out) ⌝ }
-    ensures { λ r. ⌜ Writes (now (reply .entry) ++ answerBytes answer) r (now (out .entry)) (now (out .exit)) ⌝ }
+    ensures { λ r. ⌜ Writes (now (reply .entry) ++ answerBytes house answer) r (now (out .entry)) (now (out .exit)) ⌝ }
 {
     common::copy(out, reply);
     let n = reply.len();
@@ -125,7 +126,7 @@ fn show_reply(reply: &[u8], answer: Answer, out: &mut [u8]) -> usize
 // Writes a number and, where it is 0, a reply and an answer.
 fn show(number: u8, reply: &[u8], answer: Answer, out: &mut [u8]) -> usize
     requires { ⌜ (length (now reply) ≤ messageBytes) × (stepMost ≤ length (now out)) ⌝ }
-    ensures { λ r. ⌜ Writes (shownWith number (now (reply .entry) ++ answerBytes answer)) r
+    ensures { λ r. ⌜ Writes (shownWith number (now (reply .entry) ++ answerBytes house answer)) r
         (now (out .entry)) (now (out .exit)) ⌝ }
 {
     out[0] = number;
@@ -139,7 +140,7 @@ fn show(number: u8, reply: &[u8], answer: Answer, out: &mut [u8]) -> usize
 fn shown(done: Done, reply: &[u8], out: &mut [u8]) -> Stepped
     requires { ⌜ (length (now reply) ≤ messageBytes) × (stepMost ≤ length (now out)) ⌝ }
     ensures { λ r. ⌜ (r .target ≡ done .target)
-        × Writes (shownWith (done .number) (now (reply .entry) ++ answerBytes (done .answer))) (r .filled)
+        × Writes (shownWith (done .number) (now (reply .entry) ++ answerBytes house (done .answer))) (r .filled)
         (now (out .entry)) (now (out .exit)) ⌝ }
 {
     let answer = done.answer;

@@ -70,11 +70,11 @@ unfolding addElement inHand
 add-joined w e r h q = rw (ne-eqb (w .target .table .draft .active) 0 h, q)
 
 -- a site for a breakpoint lies in the window
-pub site-low : (w : World) (val : ℕ) → siteFree w val ≡ true → w .target .base ≤ val
+pub site-low : (w : World) (val : ℕ) → siteFree house w val ≡ true → w .target .base ≤ val
 unfolding siteFree isSite
 site-low w val e = search parts depth 8
 
-pub site-high : (w : World) (val : ℕ) → siteFree w val ≡ true → val - w .target .base + 2 ≤ w .target .size
+pub site-high : (w : World) (val : ℕ) → siteFree house w val ≡ true → val - w .target .base + 2 ≤ w .target .size
 unfolding siteFree isSite
 site-high w val e = search parts depth 8
 

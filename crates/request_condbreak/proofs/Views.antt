@@ -13,7 +13,11 @@ use Rattle.pool.specs.Pool.{joined, planted, removed}
 use Rattle.pool.proofs.View.{view-joined, hand-joined, view-planted, view-removed, hand-removed}
 use Rattle.pool_rows.specs.Rows.{afterAll}
 use Rattle.pool_turn.specs.Turned.{turned}
-use Rattle.memory.specs.Head.{house, trapBytes}
+use Rattle.memory.specs.Head.{house}
+use Rattle.memory.specs.Write.{plainRead}
+use Rattle.common.specs.Tab.{tab}
+use Rattle.target.specs.Limits.{plainRoom}
+use native.Mathlib.Nat.{add-zero}
 use Rattle.memory.specs.Overlay.{plainAt, laidOver}
 use Rattle.rules.specs.Breakpoint.{entryWith, sites, plains, madeEntry, planted as plantedBy, removed as removedBy}
 use Rattle.rules.specs.Outcome.{World, world, replied}
@@ -92,7 +96,7 @@ module _ (t : Target) (plain words : List ℕ) where
         → viewOf (stored t (Plant k site b0 b1) plain) after
         ≡ withTable (viewOf t words) (record {
           entries = set (viewOf t words .table .entries) k
-              (entryWith (viewOf t words .table .draft) site (b0 ∷ b1 ∷ []));
+              (entryWith (viewOf t words .table .draft) site (b0 ∷ b1 ∷ 0 ∷ 0 ∷ []));
           draft = closedDraft;
         })
     unfolding stored withTable draftSize afterAll sizeOf
@@ -119,6 +123,12 @@ module _ (t : Target) (plain words : List ℕ) where
         hand-removed es c k _ (elementsOf words) b refl few,
       )
 
+-- the plain bytes of the moment, in an entry's room
+made-room : (ss ps mem : List ℕ) (at : ℕ) → plainAt 2 ss ps mem at ∷ plainAt 2 ss ps mem (at + 1) ∷ 0 ∷ 0 ∷ []
+    ≡ plainRead 2 ss ps mem at 2 plainRoom
+unfolding plainRead tab
+made-room ss ps mem at = rw (add-zero at)
+
 -- ---- b, whole: a free entry, the plain bytes of the moment, and the trap
 
 module _ (t : Target) (words old regs : List ℕ) where
@@ -126,14 +136,14 @@ module _ (t : Target) (words old regs : List ℕ) where
   w = world (viewOf t words) old regs
 
   pub plants : (site k b0 b1 f m n : ℕ) (after mem : List ℕ) (r : Effect)
-      → r ≡ effectOf 0 Nothing (Plant k site b0 b1) (replicate 16 0) (bytesOf Rcondbreak)
+      → r ≡ effectOf 0 Nothing (Plant k site b0 b1) (replicate 32 0) (bytesOf Rcondbreak)
       → (t .table .draft .active ≡ 0 → ⊥) → k ≡ firstFree (viewOf t words .table .entries)
       → k < length (t .table .entries) → f ≡ startAt (t .table .entries) k → m ≡ heldBy (t .table .entries) 0
       → n ≡ heldBy (t .table .entries) (t .table .draft .count) → elementsOf after ≡ turned f m n (elementsOf words)
       → n ≤ length (elementsOf words)
       → (ss ps : List ℕ) → ss ≡ sites (viewOf t words) → ps ≡ plains (viewOf t words)
       → b0 ≡ plainAt 2 ss ps old (site - t .base) → b1 ≡ plainAt 2 ss ps old (site - t .base + 1)
-      → mem ≡ laidOver (trapBytes house) ((site - t .base) ∷ []) old
+      → mem ≡ laidOver (house .trap) ((site - t .base) ∷ []) old
       → requestOutcome t r after mem regs ≡ replied Rcondbreak (plantedBy house w site)
   unfolding plantedBy madeEntry planted
   plants site k b0 b1 f m n after mem r e hand q b zf zm zn h few ss ps i j x y l =
@@ -141,41 +151,42 @@ module _ (t : Target) (words old regs : List ℕ) where
       rw q (free-stored (t .table .entries) (elementsOf words) (omega (arith, q, b))) in
       replies t Rcondbreak after mem regs e refl
       ∙ rw (
-        view-made t (replicate 16 0) words hand k site b0 b1 after b free (rw (zf, zm, zn) at h) (rw zn at few),
+        view-made t (replicate 32 0) words hand k site b0 b1 after b free (rw (zf, zm, zn) at h) (rw zn at few),
         q,
         x,
         y,
         l,
         i,
         j,
+        made-room (sites (viewOf t words)) (plains (viewOf t words)) old (site - t .base),
       )
 
   -- ---- d, whole: the entry is free, its elements are taken out, and its plain bytes are back
 
   pub deletes : (k f m n : ℕ) (after mem : List ℕ) (r : Effect)
-      → r ≡ effectOf 0 Nothing (Remove k) (replicate 16 0) (bytesOf Rcondbreak) → k < length (t .table .entries)
+      → r ≡ effectOf 0 Nothing (Remove k) (replicate 32 0) (bytesOf Rcondbreak) → k < length (t .table .entries)
       → f ≡ startAt (t .table .entries) k → m ≡ startAt (t .table .entries) (suc k)
       → n ≡ heldBy (t .table .entries) (draftSize (t .table .draft))
       → elementsOf after ≡ turned f m n (elementsOf words)
-      → n ≤ length (elementsOf words) → mem ≡ removedBy w k .mem
-      → requestOutcome t r after mem regs ≡ replied Rcondbreak (removedBy w k)
+      → n ≤ length (elementsOf words) → mem ≡ removedBy house w k .mem
+      → requestOutcome t r after mem regs ≡ replied Rcondbreak (removedBy house w k)
   unfolding removedBy removed
   deletes k f m n after mem r e b zf zm zn h few l =
       replies t Rcondbreak after mem regs e refl
-      ∙ rw (view-freed t (replicate 16 0) words k after b (rw (zf, zm, zn) at h) (rw zn at few), l)
+      ∙ rw (view-freed t (replicate 32 0) words k after b (rw (zf, zm, zn) at h) (rw zn at few), l)
 
 -- ---- an element that fits, whole
 
 pub adds : (t : Target) (words mem regs : List ℕ) (e : Element) (n : ℕ) (after : List ℕ) (r : Effect)
     → r ≡ effectOf 0 Nothing (Hand (t .table .draft .active) (t .table .draft .id) (t .table .draft .count + 1))
-    (replicate 16 0) (bytesOf Rcondbreak)
+    (replicate 32 0) (bytesOf Rcondbreak)
     → (t .table .draft .active ≡ 0 → ⊥) → n ≡ heldBy (t .table .entries) (t .table .draft .count)
     → elementsOf after ≡ set (elementsOf words) n e → n < length (elementsOf words)
     → requestOutcome t r after mem regs ≡ joinedBy (world (viewOf t words) mem regs) e Fits
 unfolding joinedBy joined
 adds t words mem regs e n after r q hand z h few =
     replies t Rcondbreak after mem regs q refl
-    ∙ rw (view-more t (replicate 16 0) words hand e after (rw z at h) (rw z at few))
+    ∙ rw (view-more t (replicate 32 0) words hand e after (rw z at h) (rw z at few))
 
 -- the room for it, by the scan
 pub room-is : (u : Table) (s : Scan) (letter value : ℕ) → Joinable u s → (u .draft .active ≡ 0 → ⊥)

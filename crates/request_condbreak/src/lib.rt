@@ -126,7 +126,7 @@ fn plant(t: Target, s: Scan, places: &mut [u32; Table::WORDS], mem: &mut [u8], s
 // A site is even, both its bytes are in the window, and no breakpoint is there.
 fn site_free(t: Target, s: Scan, val: u32) -> bool
     ensures { λ r. ⌜ ((words mem regs : List ℕ) → Findable (viewOf t words) s
-        → r ≡ siteFree (world (viewOf t words) mem regs) val) ⌝ }
+        → r ≡ siteFree house (world (viewOf t words) mem regs) val) ⌝ }
 {
     if !memory_place::is_site(t.base, t.size as usize, val) {
         return false;
@@ -158,7 +158,7 @@ fn set(t: Target, s: Scan, places: &mut [u32; Table::WORDS], mem: &mut [u8], val
 fn delete(t: Target, s: Scan, places: &mut [u32; Table::WORDS], mem: &mut [u8], val: u32) -> Effect
     requires { ⌜ Ready house (viewOf t (now places)) s (now mem) ⌝ }
     ensures { λ r. ⌜ ((regs : List ℕ) → requestOutcome t r (now (places .exit)) (now (mem .exit)) regs
-        ≡ deleteBreakpoint (world (viewOf t (now (places .entry))) (now (mem .entry)) regs) val) ⌝ }
+        ≡ deleteBreakpoint house (world (viewOf t (now (places .entry))) (now (mem .entry)) regs) val) ⌝ }
 {
     let unknown = wire::bytes_of(Message::Rerr {
         reason: Reason::Inval,

@@ -13,6 +13,7 @@ use denote.Laws.{Is}
 use Rattle.common.specs.Same.{sameList}
 use Rattle.common.proofs.Same.{and-both, same-eq}
 use Rattle.common.proofs.Tab.{length-tab}
+use Rattle.memory.specs.Head.{house, width}
 use Rattle.memory.proofs.Parts.{part-bytes}
 use Rattle.memory.specs.Place.{placeOf}
 use Rattle.memory.specs.declared.Place.{Place}
@@ -22,7 +23,7 @@ use Rattle.target_fit.specs.Fit.{processAt, processOf, currentFit, findOf}
 use Rattle.target_fit.specs.declared.Lookup.{Lookup}
 use Rattle.target_fit.specs.declared.Lookup.the-variants.{At, Unlisted}
 use Rattle.target_fit.specs.declared.Scan.{Scan}
-use Rattle.target_fit.proofs.Slots.{TwoEach}
+use Rattle.target_fit.proofs.Slots.{Roomy}
 use Rattle.rules.specs.declared.Answer.the-variants.{Nothing}
 use Rattle.rules.specs.Breakpoint.{sites, plains}
 use Rattle.rules.specs.Outcome.{World, world, Outcome, outcome, repliedWith, replied, error}
@@ -34,6 +35,7 @@ use Rattle.step_effect.proofs.View.{stored-plains}
 use Rattle.rules.specs.Record.{withTable, withEntries, indexOf, isStopped, blockAt}
 use Rattle.rules.specs.Request.{onBlock, data9Of, gotFrom, mget, mput, withPlains, windowWritten, putTo}
 use Rattle.rules.proofs.Slots.{with-plains}
+use Rattle.target.specs.Limits.{maxPlain}
 use Rattle.target.specs.View.{Entry, Target, viewOf}
 use Rattle.target.specs.declared.Target.{Target as StoredTarget}
 use Rattle.target_fit.proofs.Scan as scan
@@ -126,12 +128,12 @@ module _ (w : World) (reply : List ℕ) where
     unfolding repliedWith
     answers l h = rw (e, h)
 
-    pub got-window : got ≡ plainRead 2 (sites (w .target)) (plains (w .target)) (w .mem) (addr - w .target .base) n 9
-        → outcome 0 Nothing w reply ≡ gotFrom Window w addr n
+    pub got-window : got ≡ plainRead (width house) (sites (w .target)) (plains (w .target)) (w .mem) (addr - w .target .base) n 9
+        → outcome 0 Nothing w reply ≡ gotFrom house Window w addr n
     unfolding gotFrom
     got-window h = answers _ h
 
-    pub got-none : got ≡ replicate 9 0 → n ≡ 0 → outcome 0 Nothing w reply ≡ mget w addr n
+    pub got-none : got ≡ replicate 9 0 → n ≡ 0 → outcome 0 Nothing w reply ≡ mget house w addr n
     unfolding mget data9Of
     got-none h z = rw (eq-eqb n 0 z) (answers _ h)
 
@@ -140,7 +142,7 @@ module _ (w : World) (addr n : ℕ) where
   pub got-registers : (b : Block) → b ≡ blockOf (w .target)
       → ((i : ℕ) → b ≡ block.At i → 136 * i + 136 ≤ length (w .regs))
       → addr + n ≤ 136 → (reply : List ℕ) → reply ≡ blockReply b (take n (drop addr (blockPart b (w .regs))))
-      → outcome 0 Nothing w reply ≡ gotFrom Registers w addr n
+      → outcome 0 Nothing w reply ≡ gotFrom house Registers w addr n
   unfolding gotFrom onIt blockPart blockReply blockAt
   got-registers (block.At i) f within h reply e =
       answers w reply _ e addr n _ (part-bytes (w .regs) (136 * i) addr n 9 h (within i refl))
@@ -149,15 +151,15 @@ module _ (w : World) (addr n : ℕ) where
 
   -- what is got from the place that the address names
   pub got-from : (n ≡ 0 → ⊥) → (q : Place) → placeOf (w .target .base) (w .target .size) addr n ≡ q
-      → (x : Outcome) → x ≡ gotFrom q w addr n → x ≡ mget w addr n
+      → (x : Outcome) → x ≡ gotFrom house q w addr n → x ≡ mget house w addr n
   unfolding mget
   got-from z q e x h = rw (ne-eqb n 0 z, e) h
 
 -- ---- the plain bytes of a record's table
 
--- a scan's plain bytes are sixteen, before a write and after it
-pub sixteen : (s : Scan) (vs : List Val) → Is scan.the-row s vs → 16 ≡ length (s .plain)
-sixteen s vs h =
+-- a scan's plain bytes have their room, before a write and after it
+pub scan-plain : (s : Scan) (vs : List Val) → Is scan.the-row s vs → maxPlain ≡ length (s .plain)
+scan-plain s vs h =
     sym (sym (length-map (s .plain) (λ (x : ℕ). x)) ∙ (h .1 .1 .1 .1 .1 .1 .1 .0 .1 .0 .1))
 
 pub length-after : (w : ℕ) (ss ps : List ℕ) (at : ℕ) (bytes plain : List ℕ) → plain
@@ -169,64 +171,61 @@ length-after w ss ps at bytes plain e = sym (ap length e ∙ length-tab (length 
 
 module _ (w : World) (addr : ℕ) (bytes : List ℕ) where
   -- register zero is not written
-  pub put-zero : addr ≤ 3 → error Inval w ≡ putTo Registers w addr bytes
+  pub put-zero : addr ≤ 3 → error Inval w ≡ putTo house Registers w addr bytes
   unfolding putTo
   put-zero h = rw (le-leb addr 3 h)
 
   pub put-refused : 3 < addr → (b : Block) (r : Reason) → b ≡ blockOf (w .target) → b ≡ Refused r
-      → error r w ≡ putTo Registers w addr bytes
+      → error r w ≡ putTo house Registers w addr bytes
   unfolding putTo onIt
   put-refused h b r f t = rw (lt-leb addr 3 h) (on-it w _ (Refused r) b f t)
 
   pub put-block : 3 < addr → (b : Block) (i : ℕ) → b ≡ blockOf (w .target) → b ≡ block.At i → (regs reply : List ℕ)
       → regs ≡ overwritten (w .regs) (136 * i + addr) bytes → reply ≡ bytesOf Rmput
-      → outcome 0 Nothing (world (w .target) (w .mem) regs) reply ≡ putTo Registers w addr bytes
+      → outcome 0 Nothing (world (w .target) (w .mem) regs) reply ≡ putTo house Registers w addr bytes
   unfolding putTo repliedWith onIt
   put-block h b i f t regs reply e r = rw (e, r, lt-leb addr 3 h) (on-it w _ (block.At i) b f t)
 
   module _ (ss ps : List ℕ) (e : ss ≡ sites (w .target)) (f : ps ≡ plains (w .target)) (mem plain reply : List ℕ)
-      (m : mem ≡ memAfter 2 ss (w .mem) (addr - w .target .base) bytes) (p : plain
-      ≡ plainAfter 2 ss ps (addr - w .target .base) bytes)
+      (m : mem ≡ memAfter (width house) ss (w .mem) (addr - w .target .base) bytes) (p : plain
+      ≡ plainAfter (width house) ss ps (addr - w .target .base) bytes)
       (r : reply ≡ bytesOf Rmput) where
     -- the window's bytes, and the table with the slots' bytes taken
     pub put-window : outcome 0 Nothing
         (world (withEntries (w .target) (withPlains (w .target .table .entries) plain)) mem (w .regs)) reply
-        ≡ putTo Window w addr bytes
+        ≡ putTo house Window w addr bytes
     unfolding putTo repliedWith windowWritten
     put-window = rw (m, p, r, e, f)
 
     -- where no slot's byte changed, the record is as it was
-    pub put-same : TwoEach (w .target .table .entries) → sameList ps plain ≡ true
-        → outcome 0 Nothing (world (w .target) mem (w .regs)) reply ≡ putTo Window w addr bytes
+    pub put-same : Roomy (w .target .table .entries) → sameList ps plain ≡ true
+        → outcome 0 Nothing (world (w .target) mem (w .regs)) reply ≡ putTo house Window w addr bytes
     unfolding withEntries withTable
-    put-same two same =
+    put-same room same =
         let es = w .target .table .entries in
         let kept : withPlains es plain ≡ es = ap (withPlains es) (sym (same-eq ps plain same) ∙ f)
-        ∙ with-plains es two in
+        ∙ with-plains es room in
         ap (λ (l : List Entry). outcome 0 Nothing (world (withEntries (w .target) l) mem (w .regs)) reply) (sym kept)
         ∙ put-window
 
 -- the same of the record of the code, whose entries take the slots' bytes
 pub put-stored : (t : StoredTarget) (words old regs : List ℕ) (addr : ℕ) (bytes ss ps mem plain reply : List ℕ)
-    → length (t .table .entries) ≡ 8 → 16 ≡ length ps
     → let w = world (viewOf t words) old regs in
-    ss ≡ sites (w .target) → ps ≡ plains (w .target) → mem ≡ memAfter 2 ss old (addr - t .base) bytes
-    → plain ≡ plainAfter 2 ss ps (addr - t .base) bytes → reply ≡ bytesOf Rmput
+    ss ≡ sites (w .target) → ps ≡ plains (w .target) → mem ≡ memAfter (width house) ss old (addr - t .base) bytes
+    → plain ≡ plainAfter (width house) ss ps (addr - t .base) bytes → reply ≡ bytesOf Rmput
     → (x : Effect) → x ≡ effectOf 0 Nothing Plain plain reply
-    → requestOutcome t x words mem regs ≡ putTo Window w addr bytes
-put-stored t words old regs addr bytes ss ps mem plain reply z n e f m p r x q =
-    let l : length plain ≡ 2 * length (t .table .entries) =
-    omega (arith, length-after 2 ss ps (addr - t .base) bytes plain p) in
-    rw (q, stored-plains t plain words l)
+    → requestOutcome t x words mem regs ≡ putTo house Window w addr bytes
+put-stored t words old regs addr bytes ss ps mem plain reply e f m p r x q =
+    rw (q, stored-plains t plain words)
     (put-window (world (viewOf t words) old regs) addr bytes ss ps e f mem plain reply m p r)
 
 module _ (w : World) (addr n : ℕ) (d : Data4) where
-  pub put-none : n ≡ 0 → (reply : List ℕ) → reply ≡ bytesOf Rmput → outcome 0 Nothing w reply ≡ mput w addr n d
+  pub put-none : n ≡ 0 → (reply : List ℕ) → reply ≡ bytesOf Rmput → outcome 0 Nothing w reply ≡ mput house w addr n d
   unfolding mput repliedWith
   put-none z reply r = rw (eq-eqb n 0 z, r)
 
   -- what is put to the place that the address names
   pub put-to : (n ≡ 0 → ⊥) → (q : Place) → placeOf (w .target .base) (w .target .size) addr n ≡ q
-      → (x : Outcome) → x ≡ putTo q w addr (take n (bytes4 d)) → x ≡ mput w addr n d
+      → (x : Outcome) → x ≡ putTo house q w addr (take n (bytes4 d)) → x ≡ mput house w addr n d
   unfolding mput
   put-to z q e x h = rw (ne-eqb n 0 z, e) h

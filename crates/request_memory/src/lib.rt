@@ -111,7 +111,7 @@ pub fn mget<'a>(t: Target, s: Scan, mem: &'a [u8], regs: &'a [u8], addr: u32, n:
     requires { ⌜ Lent t (now mem) (now regs) ⌝ }
     ensures { λ r. ⌜ ((words : List ℕ) → Arrays (viewOf t words) s
         → outcome 0 Nothing (world (viewOf t words) (now (mem .entry)) (now (regs .entry))) r
-        ≡ mgetOf (world (viewOf t words) (now (mem .entry)) (now (regs .entry))) addr n) ⌝ }
+        ≡ mgetOf house (world (viewOf t words) (now (mem .entry)) (now (regs .entry))) addr n) ⌝ }
 {
     if n == 0 {
         return rmget([0; 9]);
@@ -134,7 +134,7 @@ pub fn mget<'a>(t: Target, s: Scan, mem: &'a [u8], regs: &'a [u8], addr: u32, n:
 fn put_registers(t: Target, regs: &mut [u8], addr: u32, bytes: &[u8]) -> [u8; 10]
     requires { ⌜ Blocks t (now regs) × (addr + length (now bytes) ≤ blockSize) ⌝ }
     ensures { λ r. ⌜ ((words mem : List ℕ) → outcome 0 Nothing (world (viewOf t words) mem (now (regs .exit))) r
-        ≡ putTo place.Registers (world (viewOf t words) mem (now (regs .entry))) addr (now (bytes .entry))) ⌝ }
+        ≡ putTo house place.Registers (world (viewOf t words) mem (now (regs .entry))) addr (now (bytes .entry))) ⌝ }
 {
     if addr <= 3 {
         return rerr(Reason::Inval);
@@ -164,7 +164,7 @@ pub fn mput(
     requires { ⌜ n ≤ 4 ⌝ }
     ensures { λ r. ⌜ ((words : List ℕ) → Arrays (viewOf t words) s
         → requestOutcome t r words (now (mem .exit)) (now (regs .exit))
-        ≡ mputOf (world (viewOf t words) (now (mem .entry)) (now (regs .entry))) addr n d) ⌝ }
+        ≡ mputOf house (world (viewOf t words) (now (mem .entry)) (now (regs .entry))) addr n d) ⌝ }
 {
     let rmput = wire::bytes_of(Message::Rmput);
     if n == 0 {

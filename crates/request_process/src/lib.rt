@@ -13,6 +13,7 @@ ghost use mathlib.Core.List.{List};
 ghost use Prim.Native.Nat.{ℕ, _*_, _≤_};
 ghost use lib.ListN.{length};
 ghost use Rattle.target.specs.declared.Target.{Target};
+ghost use Rattle.memory.specs.Head.{house};
 ghost use Rattle.rules.specs.Outcome.{world, error};
 ghost use Rattle.step_effect.specs.Effect.{requestOutcome};
 ghost use Rattle.target.specs.View.{viewOf};
@@ -108,7 +109,7 @@ pub fn start(t: Target, s: Scan, regs: &[u8], pid: u32) -> Effect
     requires { ⌜ (t .count ≤ maxProcesses) × (length (now regs) ≡ blockSize * t .count) ⌝ }
     ensures { λ r. ⌜ ((words mem : List ℕ) → Findable (viewOf t words) s
         → requestOutcome t r words mem (now (regs .entry))
-        ≡ startOf (world (viewOf t words) mem (now (regs .entry))) pid) ⌝ }
+        ≡ startOf house (world (viewOf t words) mem (now (regs .entry))) pid) ⌝ }
 {
     let found = target_fit::find(t, pid);
     let Lookup::At(i, p) = found else {

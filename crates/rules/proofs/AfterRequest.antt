@@ -53,14 +53,14 @@ module _ {head : Head} (s : Setup) (b : Book) (t : Target) (mem regs : List ℕ)
   abbrev w : World
   w = world t mem regs
 
-  abbrev v : Follows s b t mem
+  abbrev v : Follows head s b t mem
   v = a .follows
 
   -- ---- Tmput
 
   -- into the window goes what the book writes
   after-put : (addr n : ℕ) (d : Data4) → 0 < n → placeOf (t .base) (t .size) addr n ≡ Window
-      → let o = windowWritten w addr (take n (bytes4 d)) in Follows s (bookWrite s b addr n d) (o .target) (o .mem)
+      → let o = windowWritten head w addr (take n (bytes4 d)) in Follows head s (bookWrite s b addr n d) (o .target) (o .mem)
   unfolding bookWrite inWindow intoWindow
   after-put addr n d h p =
       rw (lt-ltb 0 n h, same-place s b t mem a addr n ∙ p, ap (λ (k : ℕ). addr - k) (sym (v .base)))
@@ -68,7 +68,7 @@ module _ {head : Head} (s : Setup) (b : Book) (t : Target) (mem regs : List ℕ)
 
   -- and elsewhere nothing
   after-aside : (addr n : ℕ) (d : Data4) → (0 < n → placeOf (t .base) (t .size) addr n ≡ Window → ⊥)
-      → Follows s (bookWrite s b addr n d) t mem
+      → Follows head s (bookWrite s b addr n d) t mem
   unfolding bookWrite
   after-aside addr n d out =
       on-test (inWindow s addr n) (λ e. let i = in-window s b t mem a addr n e in
@@ -78,7 +78,7 @@ module _ {head : Head} (s : Setup) (b : Book) (t : Target) (mem regs : List ℕ)
 
   -- a process that is not Stopped afterwards
   after-start : (pid state : ℕ) → indexOf t pid < t .count → eqb state 8 ≡ false
-      → Follows s (bookStart b pid) (setState t (indexOf t pid) state 0) mem
+      → Follows head s (bookStart b pid) (setState t (indexOf t pid) state 0) mem
   unfolding bookStart
   after-start pid state h e =
       move-named s b t mem v (a .good) pid h state 0 (others pid (b .stopped)) (e ∙ sym (among-gone pid (b .stopped)))
@@ -87,34 +87,34 @@ module _ {head : Head} (s : Setup) (b : Book) (t : Target) (mem regs : List ℕ)
   -- ---- Tcondbreak
 
   -- what is in hand is dropped, or not: the book keeps its draft
-  after-unless : (d : Bool) → let o = cond d (dropped w) w in Follows s b (o .target) (o .mem)
+  after-unless : (d : Bool) → let o = cond d (dropped w) w in Follows head s b (o .target) (o .mem)
   unfolding dropped withDraft withPending
   after-unless true = move-draft s b t mem v closedDraft (b .draft) (drafted-none (b .draft))
   after-unless false = v
 
   -- n
   after-begun : (val : ℕ)
-      → Follows s (withPending b (some (record { id = val; elements = [] }))) (withDraft t (begun val)) mem
+      → Follows head s (withPending b (some (record { id = val; elements = [] }))) (withDraft t (begun val)) mem
   unfolding begun pendingOf
   after-begun val = move-draft s b t mem v (begun val) _ (λ h. refl)
 
   -- an element
   after-joined : (e : Element)
-      → Follows s (withPending b (joins (b .draft) e)) (withDraft t (withElement (t .table .draft) e)) mem
+      → Follows head s (withPending b (joins (b .draft) e)) (withDraft t (withElement (t .table .draft) e)) mem
   after-joined e =
       move-draft s b t mem v _ (joins (b .draft) e) (joins-both (t .table .draft) (b .draft) e (v .draft))
 
   -- b
   after-planted : (val : ℕ) → inHand w ≡ true
       → let o = planted head w val in
-      Follows s (withBreakpoints (withPending b none) (sets (b .draft) val (b .breakpoints))) (o .target) (o .mem)
+      Follows head s (withBreakpoints (withPending b none) (sets (b .draft) val (b .breakpoints))) (o .target) (o .mem)
   unfolding inHand
   after-planted val h = move-planted s b t mem v (a .good) regs val (not-true _ h)
 
   -- d
   after-deleted : (val : ℕ) → val ≤ 255 → entryOf (t .table .entries) val < length (t .table .entries)
-      → let o = removed w (entryOf (t .table .entries) val) in
-      Follows s (withBreakpoints b (removing (λ x. eqb (x .id) val) (b .breakpoints))) (o .target) (o .mem)
+      → let o = removed head w (entryOf (t .table .entries) val) in
+      Follows head s (withBreakpoints b (removing (λ x. eqb (x .id) val) (b .breakpoints))) (o .target) (o .mem)
   unfolding dressed
   after-deleted val low below =
       let es = t .table .entries in
@@ -125,7 +125,7 @@ module _ {head : Head} (s : Setup) (b : Book) (t : Target) (mem regs : List ℕ)
   -- ---- every request
 
   after-left : {p : Parsed} {x : Answer} {q : Message} {o : World} → RequestCase head w p x q o
-      → Follows s (bookRequest s b p) (o .target) (o .mem)
+      → Follows head s (bookRequest s b p) (o .target) (o .mem)
   unfolding bookRequest bookServed bookCondbreak isStopped
   after-left (got d h) = v
   after-left (put h p) = after-put _ _ _ h p
@@ -144,7 +144,7 @@ module _ {head : Head} (s : Setup) (b : Book) (t : Target) (mem regs : List ℕ)
 
   -- an accepted one feeds the book, and one that is refused does not
   pub after-served : {d : Bool} {p : Parsed} {o : Outcome} → RequestOutcome w d (RequestCase head w p) o
-      → Follows s (cond (isAccepted (o .number) (o .reply)) (bookRequest s b p) b) (o .after .target)
+      → Follows head s (cond (isAccepted (o .number) (o .reply)) (bookRequest s b p) b) (o .after .target)
       (o .after .mem)
   unfolding isAccepted repliedWith error bytesOf typeOf
   after-served (serving y m x h e l) = rw e (after-left l)

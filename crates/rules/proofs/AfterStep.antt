@@ -36,12 +36,12 @@ module _ {head : Head} (s : Setup) (b : Book) (t : Target) (mem regs : List ℕ)
   abbrev w : World
   w = world t mem regs
 
-  abbrev v : Follows s b t mem
+  abbrev v : Follows head s b t mem
   v = a .follows
 
   -- a process Stopped in the record and in the book
   now-stopped : (pid : ℕ) (block : List ℕ) → indexOf t pid < t .count
-      → let o = stopWith w (indexOf t pid) block in Follows s (withStopped b (pid ∷ b .stopped)) (o .target) (o .mem)
+      → let o = stopWith w (indexOf t pid) block in Follows head s (withStopped b (pid ∷ b .stopped)) (o .target) (o .mem)
   unfolding stopWith
   now-stopped pid block h =
       move-named s b t mem v (a .good) pid h stopped 0 (pid ∷ b .stopped) (sym (among-here pid (b .stopped)))
@@ -49,7 +49,7 @@ module _ {head : Head} (s : Setup) (b : Book) (t : Target) (mem regs : List ℕ)
 
   -- an accepted event
   after-heard : {e : Step} {x : Answer} {o : World} → EventCase head w e x o
-      → Follows s (fed s b e 0 x []) (o .target) (o .mem)
+      → Follows head s (fed s b e 0 x []) (o .target) (o .mem)
   unfolding fed bookAnswer withStopped passOf
   after-heard (caught {block = block} h k e) = now-stopped _ block h
   after-heard (released k e) = v
@@ -60,11 +60,11 @@ module _ {head : Head} (s : Setup) (b : Book) (t : Target) (mem regs : List ℕ)
 -- every step
 pub after-step : {head : Head} (s : Setup) (b : Book) (t : Target) (mem : List ℕ) → Agree head s b t mem → (e : Step)
     → let o = stepOf head t mem e in
-    Follows s (fed s b e (o .number) (o .answer) (o .reply)) (o .after .target) (o .after .mem)
+    Follows head s (fed s b e (o .number) (o .answer) (o .reply)) (o .after .target) (o .after .mem)
 unfolding fed refused answered restart repliedWith
-after-step s b t mem a =
-    by-step t mem (λ e o. Follows s (fed s b e (o .number) (o .answer) (o .reply)) (o .after .target) (o .after .mem))
+after-step {head} s b t mem a =
+    by-step t mem (λ e o. Follows head s (fed s b e (o .number) (o .answer) (o .reply)) (o .after .target) (o .after .mem))
     (λ e n h three. rw (unfed s b e n (bufferOf e) h) (a .follows))
     (λ regs bytes reply o x. after-served s b t mem regs a x)
     (λ e x o h. after-heard s b t mem (regsOf e) a h)
-    (λ regs reply. move-restart s b t mem (a .follows) regs)
+    (λ regs reply. move-restart s b t mem (a .follows) (a .good .lawful) regs)

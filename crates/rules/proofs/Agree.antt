@@ -10,7 +10,7 @@ use lib.Dec.{eqb}
 use lib.ListN.{take}
 use Rattle.common.specs.Keys.{among}
 use Rattle.target_fit.specs.Fit.{processAt, entryAt}
-use Rattle.memory.specs.Head.{Head}
+use Rattle.memory.specs.Head.{Head, width}
 use Rattle.memory.specs.Overlay.{plainOf}
 use Rattle.target.specs.View.{Draft, Entry, Target}
 use Rattle.target.specs.declared.Process.{Process}
@@ -58,12 +58,12 @@ Halted n ps l = (i : ℕ) → i < n → isStopped (processAt ps i) ≡ among l (
 -- ---- the whole
 
 -- the record and memory are as the book says
-pub record Follows (s : Setup) (b : Book) (t : Target) (mem : List ℕ) : Type 0 where
+pub record Follows (head : Head) (s : Setup) (b : Book) (t : Target) (mem : List ℕ) : Type 0 where
   pub base : t .base ≡ s .base
   pub size : t .size ≡ s .size
   pub count : t .count ≡ s .count
   pub pids : take (t .count) (pidsOf (t .processes)) ≡ take (s .count) (s .pids)
-  pub plain : plainOf 2 (sites t) (plains t) mem ≡ b .plain
+  pub plain : plainOf (width head) (sites t) (plains t) mem ≡ b .plain
   pub breakpoints : SameBreakpoints (t .table .entries) (b .breakpoints)
   pub draft : Drafted (t .table .draft) (b .draft)
   pub stopped : Halted (t .count) (t .processes) (b .stopped)
@@ -71,4 +71,4 @@ pub record Follows (s : Setup) (b : Book) (t : Target) (mem : List ℕ) : Type 0
 -- and the record is fit
 pub record Agree (head : Head) (s : Setup) (b : Book) (t : Target) (mem : List ℕ) : Type 0 where
   pub good : Good head t mem
-  pub follows : Follows s b t mem
+  pub follows : Follows head s b t mem

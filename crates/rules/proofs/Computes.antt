@@ -15,7 +15,7 @@ use Rattle.wire_text.specs.Text.{reasonName, hexDigit, hexBytes, stateNames, st
 use Rattle.request_parse.specs.Request.{counted, unused, lettered, parsedBy, parseOf}
 use Rattle.memory.specs.Overlay.{siteOver, slotOf, covered, plainAt, plainOf, laidAt, laidOver}
 use Rattle.memory.specs.Place.{placeOf, isSite}
-use Rattle.memory.specs.Write.{bytesAt, plainRead, writtenAt, overwritten, memAfter, offsetOf, plainAfter}
+use Rattle.memory.specs.Write.{bytesAt, plainRead, writtenAt, overwritten, memAfter, offsetOf, holdsPlain, plainAfter}
 use Rattle.condition.specs.Add.{roomBy, roomFor, withElement}
 use Rattle.condition.specs.Depth.{depthAfter, depthFrom, depthOf, wellBegun, wellFormed}
 use Rattle.condition.specs.Evaluate.{joinOf, isOutside, wordOf, escapes, stackAfter, evalFrom, evaluateOf, fetchOf}
@@ -69,7 +69,7 @@ unfolding shownBy after shown shownWith answerBytes
     roomBy roomFor withElement heldOf entriesHeld placesOf draftHeld total depthAfter depthFrom depthOf wellBegun
     wellFormed
     joinOf isOutside wordOf escapes stackAfter evalFrom evaluateOf fetchOf
-    placeOf isSite bytesAt plainRead writtenAt overwritten memAfter offsetOf plainAfter
+    placeOf isSite bytesAt plainRead writtenAt overwritten memAfter offsetOf holdsPlain plainAfter
     siteOver slotOf covered plainAt plainOf laidAt laidOver
     parseOf parsedBy counted unused lettered data4 kinds kindOf
     isOp bytesOf typeOf fieldsOf bytes4 bytes9 reasonName hexDigit hexBytes stateNames stateText addressText

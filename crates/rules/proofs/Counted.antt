@@ -8,7 +8,7 @@ use borrow.Author.Tests.{eq-eqb, ne-eqb, not-true}
 use lib.Dec.{eqb}
 use lib.ListN.{length, set, replicate, getD-replicate}
 use Rattle.condition.specs.Add.{withElement}
-use Rattle.memory.specs.Head.{Head}
+use Rattle.memory.specs.Head.{Head, width}
 use Rattle.pool_rows.specs.Rows.{total}
 use Rattle.request_parse.specs.declared.Parsed.{Parsed}
 use Rattle.target.specs.Free.{isFree, firstFree}
@@ -116,7 +116,7 @@ module _ {head : Head} (t : Target) (mem regs : List ℕ) (g : Good head t mem) 
     unfolding planted withTable madeEntry heldOf draftHeld isFree setBy
     counts-planted val =
         let k = firstFree es in
-        let e = madeEntry w val in
+        let e = madeEntry head w val in
         let o = hand-of d es (facts-of t mem g .draft) active in
         let free : isFree (entryAt es k) ≡ true = free-found es (omega (arith, o .room)) in
         let b : k < length es = omega (arith, o .room) in
@@ -142,7 +142,7 @@ module _ {head : Head} (t : Target) (mem regs : List ℕ) (g : Good head t mem) 
 
   -- d
   counts-removed : (val : ℕ) → val ≤ 255 → entryOf es val < length es
-      → Counts (removed w (entryOf es val) .target .table)
+      → Counts (removed head w (entryOf es val) .target .table)
       (count (y .held - setBy (y .sets) val) (y .hand) (y .id) (y .sets))
   unfolding removed withEntries withTable heldOf isFree
   counts-removed val low below =
@@ -167,10 +167,10 @@ module _ {head : Head} (t : Target) (mem regs : List ℕ) (g : Good head t mem) 
       }
 
   -- bytes are written to the window
-  counts-written : (addr : ℕ) (bytes : List ℕ) → Counts (windowWritten w addr bytes .target .table) y
+  counts-written : (addr : ℕ) (bytes : List ℕ) → Counts (windowWritten head w addr bytes .target .table) y
   unfolding windowWritten withEntries withTable heldOf isFree
   counts-written addr bytes =
-      let b = plainAfter 2 (sites t) (plains t) (addr - t .base) bytes in
+      let b = plainAfter (width head) (sites t) (plains t) (addr - t .base) bytes in
       record {
         held = omega (arith, c .held, held-with es b);
         hand = c .hand;

@@ -6,14 +6,15 @@ use mathlib.Core.List.{List}
 use lib.ListN.{length, getD}
 use Rattle.condition.specs.Depth.{wellFormed}
 use Rattle.target_fit.specs.Fit.{fitOf, processAt, entryAt, markFit, currentFit, draftFit, heldOf}
-use Rattle.memory.specs.Head.{Head}
+use Rattle.memory.specs.Head.{Head, width, Lawful}
+use Rattle.target.specs.Limits.{plainRoom}
 use Rattle.target.specs.Free.{isFree}
 use Rattle.target.specs.View.{Entry, Target}
 
 -- ---- the shape: lengths of arrays, and ids below 256, which the types of the code give
 
 pub record ShapedEntry (e : Entry) : Type 0 where
-  pub plain : length (e .plain) ≡ 2
+  pub plain : length (e .plain) ≡ plainRoom
   pub id : e .id < 256
 
 pub record Shaped (t : Target) : Type 0 where
@@ -37,11 +38,10 @@ Used t k = UsedIn (t .table .entries) k
 
 pub record UsedFacts (h : Head) (t : Target) (mem : List ℕ) (e : Entry) : Type 0 where
   pub one : e .used ≡ 1
-  pub even : e .site % 2 ≡ 0
+  pub multiple : e .site % width h ≡ 0
   pub low : t .base ≤ e .site
-  pub high : e .site - t .base + 2 ≤ length mem
-  pub trap0 : getD mem (e .site - t .base) 0 ≡ h .first
-  pub trap1 : getD mem (e .site - t .base + 1) 0 ≡ h .second
+  pub high : e .site - t .base + width h ≤ length mem
+  pub trap : (j : ℕ) → j < width h → getD mem (e .site - t .base + j) 0 ≡ getD (h .trap) j 0
   pub whole : length (e .elements) ≡ e .count
   pub formed : wellFormed (e .elements) ≡ true
 
@@ -68,8 +68,9 @@ pub record Facts (h : Head) (t : Target) (mem : List ℕ) : Type 0 where
   pub draft : draftFit (t .table .draft) (t .table .entries) ≡ true
   pub held : heldOf (t .table) ≤ 128
 
--- a record that the steps keep: shaped, fit, and with its memory
+-- a record that the steps keep: shaped, fit, and with its memory; the head is lawful
 pub record Good (h : Head) (t : Target) (mem : List ℕ) : Type 0 where
+  pub lawful : Lawful h
   pub shaped : Shaped t
   pub fit : fitOf h t mem ≡ true
   pub sized : length mem ≡ t .size

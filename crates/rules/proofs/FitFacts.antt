@@ -3,26 +3,28 @@ use mathlib.Core.Path.{_≡_, sym, ap, _∙_}
 use mathlib.Core.Bool.{true, false, not, _&&_}
 use mathlib.Core.List.{List}
 use Prim.Native.Nat.{ℕ, _+_, _-_, _*_, _%_, _<_}
+use native.Mathlib.Nat.{mod-lt}
 use native.Mathlib.Omega.{arith}
-use borrow.Author.Tests.{leb-true, ltb-true, ltb-false, eqb-false, not-true, lt-ltb, le-leb, eq-eqb, ne-eqb}
+use borrow.Author.Tests.{leb-true, ltb-true, ltb-false, eqb-true, eqb-false, not-true, lt-ltb, le-leb, eq-eqb, ne-eqb}
 use lib.Dec.{leb, ltb, eqb}
 use lib.ListN.{length, getD}
 use Rattle.common.specs.Every.{every}
 use Rattle.common.proofs.Every.{every-at, every-all}
 pub use Rattle.common.proofs.Same.{parts}
 use Rattle.common.proofs.Same.{and-left, and-right}
-use Rattle.common.proofs.Tab.{pair-at}
-use Rattle.target_fit.proofs.Slots.{TwoEach, sixteen-plains as plains-sixteen, plain-byte}
+use Rattle.target_fit.proofs.Slots.{Roomy, all-plains as plains-length, plain-byte}
 use Rattle.target_fit.specs.Fit.{fitOf, windowFit, processAt, pidFit, processesFit, entryAt, apart, siteFit, entryFit}
 use Rattle.target_fit.specs.Fit.{slotFit, entriesFit}
 use Rattle.target_fit.specs.Fit.{marksFit, currentFit, draftFit, heldOf}
-use Rattle.memory.specs.Head.{Head, trapBytes}
+use Rattle.memory.specs.Head.{Head, width}
 use Rattle.memory.specs.Place.{isSite}
 use Rattle.memory.specs.Overlay.{freeSite, siteOver, slotOf, covered}
 use Rattle.common.proofs.Cases.{on-test, on-same}
-use Rattle.memory.proofs.Site.{site-place, no-site-free}
+use Rattle.memory.proofs.Site.{site-place}
+use Rattle.memory.proofs.Lawful.{site-itself, width-some, width-free, offset-multiple}
 use Rattle.memory.proofs.Slots.{slot-below, slot-site}
 use Rattle.memory_laws.proofs.Planted.{Planted, planted-by}
+use Rattle.target.specs.Limits.{plainRoom, maxPlain}
 use Rattle.target.specs.Free.{isFree}
 use Rattle.target.specs.View.{Entry, Target}
 use Rattle.target.specs.declared.Process.{Process}
@@ -131,11 +133,13 @@ module _ (head : Head) (t : Target) (mem : List ℕ) where
       let f = rw u at h in
       record {
         one = search parts depth 9;
-        even = search parts depth 9;
+        multiple = search parts depth 9;
         low = search parts depth 9;
         high = search parts depth 9;
-        trap0 = search parts depth 9;
-        trap1 = search parts depth 9;
+        trap = λ j l.
+            let all : every (width head) (λ i. eqb (getD mem (e .site - t .base + i) 0) (getD (head .trap) i 0))
+                ≡ true = search parts depth 9 in
+            eqb-true _ _ (every-at (width head) _ all j l);
         whole = search parts depth 9;
         formed = search parts depth 9;
       }
@@ -150,11 +154,11 @@ module _ (head : Head) (t : Target) (mem : List ℕ) where
       rw (
         p,
         eq-eqb _ _ (f .one),
-        eq-eqb _ _ (f .even),
+        eq-eqb _ _ (f .multiple),
         le-leb _ _ (f .low),
         le-leb _ _ (f .high),
-        eq-eqb _ _ (f .trap0),
-        eq-eqb _ _ (f .trap1),
+        every-all (width head) (λ i. eqb (getD mem (e .site - t .base + i) 0) (getD (head .trap) i 0))
+            (λ j l. eq-eqb _ _ (f .trap j l)),
         eq-eqb _ _ (f .whole),
         f .formed,
       ))
@@ -263,9 +267,9 @@ facts-of t mem g = fit-facts t mem (g .fit)
 pub fit-of : {head : Head} (t : Target) (mem : List ℕ) → Facts head t mem → fitOf head t mem ≡ true
 fit-of {head} t mem f = fit-by t mem (tests-by head t mem f)
 
--- every entry of a shaped record has two plain bytes
-pub two-each : (t : Target) → Shaped t → TwoEach (t .table .entries)
-two-each t s k h = s .entry k (omega (arith, s .entries)) .plain
+-- every entry of a shaped record has its room for plain bytes
+pub roomy : (t : Target) → Shaped t → Roomy (t .table .entries)
+roomy t s k h = s .entry k (omega (arith, s .entries)) .plain
 
 -- ---- the slots of a good record
 
@@ -281,54 +285,49 @@ module _ {head : Head} (t : Target) (mem : List ℕ) (g : Good head t mem) where
   pub slot-free : (k : ℕ) → k < 8 → isFree (entryAt (t .table .entries) k) ≡ true → getD (sites t) k 0 ≡ freeSite
   slot-free k h u = slots.slot-free (t .base) (t .table .entries) k (omega (arith, g .shaped .entries)) u
 
-  -- a used slot's site is even
-  pub slot-even : (k : ℕ) → Used t k → getD (sites t) k 0 % 2 ≡ 0
-  slot-even k u =
+  -- a used slot's site is the site over itself
+  pub slot-multiple : (k : ℕ) → Used t k → siteOver (width head) (getD (sites t) k 0) ≡ getD (sites t) k 0
+  slot-multiple k u =
       let f = facts-of t mem g in
       let e = f .used k u in
-      omega (arith, slot-used k u, f .baseFour, e .even, e .low)
-
-  -- so it is the site over itself
-  pub slot-multiple : (k : ℕ) → Used t k → siteOver 2 (getD (sites t) k 0) ≡ getD (sites t) k 0
-  unfolding siteOver
-  slot-multiple k u = omega (arith, slot-even k u)
+      rw (slot-used k u)
+      (site-itself (width head) _ (offset-multiple (g .lawful) _ _ (f .baseFour) (e .multiple) (e .low)))
 
   -- no two slots share a used one's site
   pub slot-only : (j k : ℕ) → j < 8 → Used t k → getD (sites t) j 0 ≡ getD (sites t) k 0 → j ≡ k
   slot-only j k h u e =
       on-test (isFree (entryAt (t .table .entries) j))
-      (λ v. absurd (omega (arith, slot-free j h v, slot-even k u)))
+      (λ v. absurd (width-free (g .lawful) _ (slot-multiple k u ∙ sym e ∙ slot-free j h v)))
       (λ v.
       let f = facts-of t mem g in
       let a = f .used j (h, v) in
       let b = f .used k u in
       f .sitesDiffer j k (h, v) u (omega (arith, slot-used j (h, v), slot-used k u, a .low, b .low)))
 
-  pub sixteen-plains : length (plains t) ≡ 16
-  sixteen-plains = plains-sixteen (t .table .entries) (g .shaped .entries) (two-each t (g .shaped))
+  pub all-plains : length (plains t) ≡ maxPlain
+  all-plains = plains-length (t .table .entries) (g .shaped .entries) (roomy t (g .shaped))
 
   -- a slot's plain bytes are its entry's
-  pub slot-byte : (k r : ℕ) → k < 8 → r < 2
-      → getD (plains t) (k * 2 + r) 0 ≡ getD (entryAt (t .table .entries) k .plain) r 0
-  slot-byte k r h l = plain-byte (t .table .entries) (two-each t (g .shaped)) k r (omega (arith, g .shaped .entries)) l
+  pub slot-byte : (k r : ℕ) → k < 8 → r < plainRoom
+      → getD (plains t) (k * plainRoom + r) 0 ≡ getD (entryAt (t .table .entries) k .plain) r 0
+  slot-byte k r h l = plain-byte (t .table .entries) (roomy t (g .shaped)) k r (omega (arith, g .shaped .entries)) l
 
   -- real memory holds the trap at every site
-  pub planted-of : Planted (trapBytes head) (sites t) mem
-  planted-of = planted-by (trapBytes head) (sites t) mem byte
+  pub planted-of : Planted (head .trap) (sites t) mem
+  planted-of = planted-by (head .trap) (sites t) mem byte
     where
-      half : (i s : ℕ) → s + i % 2 ≡ i → getD mem s 0 ≡ head .first → getD mem (s + 1) 0 ≡ head .second
-          → getD mem i 0 ≡ getD (trapBytes head) (i % 2) 0
-      half i s p a b = sym (pair-at (λ j. getD mem j 0) s 0 (i % 2) (omega arith) ∙ ap (λ (n : ℕ). getD mem n 0) p)
-          ∙ rw (a, b)
+      w : ℕ
+      w = width head
 
-      byte : (i : ℕ) → i < length mem → covered 2 (sites t) i ≡ true → getD mem i 0 ≡ getD (trapBytes head) (i % 2) 0
+      byte : (i : ℕ) → i < length mem → covered w (sites t) i ≡ true → getD mem i 0 ≡ getD (head .trap) (i % w) 0
       byte i h e =
-          let j = slotOf 2 (sites t) i in
-          let l : j < 8 = omega (arith, slot-below 2 (sites t) i e, eight-sites) in
-          let s = slot-site 2 (sites t) i e in
+          let j = slotOf w (sites t) i in
+          let l : j < 8 = omega (arith, slot-below w (sites t) i e, eight-sites) in
+          let s = slot-site w (sites t) i e in
           on-test (isFree (entryAt (t .table .entries) j))
-          (λ v. absurd (no-site-free 2 (omega arith) i (sym s ∙ slot-free j l v)))
+          (λ v. absurd (width-free (g .lawful) i (sym s ∙ slot-free j l v)))
           (λ v.
-          let f = facts-of t mem g .used j (l, v) in
-          half i (entryAt (t .table .entries) j .site - t .base) (omega (arith, site-place 2 i, slot-used j (l, v)))
-          (f .trap0) (f .trap1))
+          let at : entryAt (t .table .entries) j .site - t .base + i % w ≡ i =
+          omega (arith, site-place w i, slot-used j (l, v)) in
+          ap (λ (n : ℕ). getD mem n 0) (sym at)
+          ∙ facts-of t mem g .used j (l, v) .trap (i % w) (mod-lt i (width-some (g .lawful))))

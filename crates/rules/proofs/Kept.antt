@@ -7,7 +7,7 @@ use native.Mathlib.Omega.{arith}
 use borrow.Author.Tests.{eqb-false, lt-ltb}
 use lib.ListN.{set, length-set}
 use Rattle.target_fit.specs.Fit.{currentFit}
-use Rattle.memory.specs.Head.{Head, trapBytes}
+use Rattle.memory.specs.Head.{Head, width, Lawful}
 use Rattle.memory.specs.Overlay.{covered}
 use Rattle.memory.proofs.Bytes.{length-plain}
 use Rattle.memory_laws.proofs.Laws.{planted-set}
@@ -76,15 +76,16 @@ module _ {head : Head} (w : World) (g : GoodWorld head w) where
       (mark-kept _ _ _ e n (facts-of (w .target) (w .mem) g .marks _ h))
 
   -- a restart
-  good-restarted : GoodWorld head (restart w .after)
+  good-restarted : GoodWorld head (restart head w .after)
   unfolding restart repliedWith
   good-restarted =
       let t = w .target in
       let c = parts-of t (w .mem) g in
       good-of _ _ (record {
+        lawful = g .lawful;
         window = c .window;
         processes = restart-parts (t .processes) (t .count) (t .selected) (t .current) (c .processes);
-        table = fresh-parts (t .base) (t .size) _ (length-plain 2 _ _ (w .mem) ∙ g .sized);
+        table = fresh-parts (g .lawful) (t .base) (t .size) _ (length-plain (width head) _ _ (w .mem) ∙ g .sized);
       })
 
   good-unless : (d : Bool) → GoodWorld head (cond d (dropped w) w)
@@ -117,25 +118,26 @@ pub never-three : {head : Head} (t : Target) (mem : List ℕ) (e : Step) → Goo
 never-three t mem e g = fine-step t mem e g .notThree
 
 -- an accepted setup makes a good record
-good-taken : {head : Head} {base size : ℕ} {pids addresses : List ℕ} {count : ℕ} {mem regs : List ℕ} {o : Outcome}
+good-taken : {head : Head} → Lawful head → {base size : ℕ} {pids addresses : List ℕ} {count : ℕ} {mem regs : List ℕ} {o : Outcome}
     → SetUp base size pids addresses count mem regs o → o .number ≡ 0 → Good head (o .after .target) mem
 unfolding setupTarget answered
-good-taken (taken e f z) n =
-    good-of _ _ (record { window = e; processes = setup-parts _ _ _ f; table = fresh-parts _ _ _ z })
-good-taken (emptied n h) z = absurd (eqb-false n 0 h z)
+good-taken law (taken e f z) n =
+    good-of _ _ (record { lawful = law; window = e; processes = setup-parts _ _ _ f; table = fresh-parts law _ _ _ z })
+good-taken law (emptied n h) z = absurd (eqb-false n 0 h z)
 
-pub good-setup : (head : Head) (s : Setup) → setupBy s .number ≡ 0 → Good head (setupBy s .after .target) (s .mem)
+pub good-setup : (head : Head) → Lawful head → (s : Setup) → setupBy s .number ≡ 0 → Good head (setupBy s .after .target) (s .mem)
 unfolding setupBy
-good-setup head s = good-taken (set-up (s .base) (s .size) (s .pids) (s .addresses) (s .count) (s .mem) (s .regs))
+good-setup head law s = good-taken law (set-up (s .base) (s .size) (s .pids) (s .addresses) (s .count) (s .mem) (s .regs))
 
 -- an outside change where no trap lies leaves a record good
 pub good-change : {head : Head} (t : Target) (mem : List ℕ) (i byte : ℕ) → Good head t mem
-    → covered 2 (sites t) i ≡ false
+    → covered (width head) (sites t) i ≡ false
     → Good head t (set mem i byte)
 good-change {head} t mem i byte g n =
     let o = parts-of t mem g in
     let u = o .table in
     good-of t (set mem i byte) (record {
+      lawful = o .lawful;
       window = o .window;
       processes = o .processes;
       table = record {
@@ -143,7 +145,7 @@ good-change {head} t mem i byte g n =
         entry = u .entry;
         draft = u .draft;
         rows = u .rows;
-        planted = planted-set (trapBytes head) (sites t) mem i byte n (u .planted);
+        planted = planted-set (head .trap) (sites t) mem i byte n (u .planted);
         sized = length-set mem i byte ∙ u .sized;
         held = u .held;
       };

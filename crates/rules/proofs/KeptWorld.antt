@@ -12,7 +12,10 @@ use Rattle.condition.specs.Depth.{wellFormed}
 use Rattle.condition.specs.Add.{roomFor, withElement}
 use Rattle.condition.specs.declared.Room.the-variants.{Fits}
 use Rattle.target_fit.specs.Fit.{stopped, entryOf, markFit, entriesHeld, draftHeld, heldOf}
-use Rattle.memory.specs.Head.{Head}
+use Rattle.memory.specs.Head.{Head, width}
+use Rattle.memory.specs.Write.{plainRead}
+use Rattle.common.proofs.Tab.{length-tab}
+use Rattle.target.specs.Limits.{plainRoom}
 use Rattle.memory.specs.Place.{isSite}
 use Rattle.target.specs.Free.{isFree, firstFree}
 use Rattle.target.specs.declared.Element.{Element}
@@ -88,15 +91,15 @@ module _ {head : Head} (w : World) (g : GoodWorld head w) where
   -- ---- breakpoints and bytes
 
   -- a breakpoint is removed
-  pub good-removed : (k : ℕ) → Used (w .target) k → GoodWorld head (removed w k)
+  pub good-removed : (k : ℕ) → Used (w .target) k → GoodWorld head (removed head w k)
   unfolding removed
   good-removed k u = good-freed (w .target) (w .mem) g k u
 
   -- one is made
-  pub good-planted : (site : ℕ) → inHand w ≡ true → siteFree w site ≡ true
+  pub good-planted : (site : ℕ) → inHand w ≡ true → siteFree head w site ≡ true
       → wellFormed (w .target .table .draft .elements) ≡ true
       → GoodWorld head (planted head w site)
-  unfolding planted inHand siteFree isSite madeEntry isFree entryOf
+  unfolding planted inHand siteFree isSite madeEntry plainRead isFree entryOf
   good-planted site hand free formed =
       let es = w .target .table .entries in
       let d = w .target .table .draft in
@@ -104,14 +107,14 @@ module _ {head : Head} (w : World) (g : GoodWorld head w) where
       let o = hand-of d es (parts-of (w .target) (w .mem) g .table .draft .fit) n in
       let none : length es ≤ breakpointAt es site = search parts in
       let eight = g .shaped .entries in
-      let fits : site - w .target .base + 2 ≤ w .target .size = search parts in
+      let fits : site - w .target .base + width head ≤ w .target .size = search parts in
       let low : w .target .base ≤ site = search parts in
-      good-made (w .target) (w .mem) g (firstFree es) (madeEntry w site) (o .room)
+      good-made (w .target) (w .mem) g (firstFree es) (madeEntry head w site) (o .room)
       (free-found es (omega (arith, o .room)))
-      (record { plain = refl; id = g .shaped .draftId }) refl (sym (hand-held d n))
+      (record { plain = length-tab plainRoom _; id = g .shaped .draftId }) refl (sym (hand-held d n))
       (record {
         one = refl;
-        even = search parts depth 7;
+        multiple = search parts depth 7;
         low = low;
         high = omega arith;
         whole = o .whole;
@@ -121,6 +124,6 @@ module _ {head : Head} (w : World) (g : GoodWorld head w) where
       (λ j u e. omega (arith, at-first es site j (omega (arith, u .0)) (u .1) e, u .0))
 
   -- bytes are written to the window
-  pub good-window : (addr : ℕ) (bytes : List ℕ) → GoodWorld head (windowWritten w addr bytes)
+  pub good-window : (addr : ℕ) (bytes : List ℕ) → GoodWorld head (windowWritten head w addr bytes)
   unfolding windowWritten
   good-window addr bytes = good-written (w .target) (w .mem) g (addr - w .target .base) bytes

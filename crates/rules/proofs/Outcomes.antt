@@ -19,7 +19,7 @@ use Rattle.condition.specs.Depth.{wellFormed}
 use Rattle.condition.specs.declared.Room.{Room}
 use Rattle.condition.specs.declared.Room.the-variants.{Fits, Full, Short}
 use Rattle.target_fit.specs.Fit.{stopped, processAt, entryAt, entryOf, windowFit, processesFit, fitOf, heldOf}
-use Rattle.memory.specs.Head.{Head}
+use Rattle.memory.specs.Head.{Head, width}
 use Rattle.memory.specs.Place.{placeOf}
 use Rattle.memory.specs.Write.{plainRead}
 use Rattle.memory.specs.declared.Place.{Place}
@@ -75,11 +75,11 @@ pub data RequestCase (head : Head) (w : World) : Parsed → Answer → Message �
   -- bytes read: of the window the plain ones
   got : {addr n : ℕ} (d : Data9)
       → (0 < n → placeOf (w .target .base) (w .target .size) addr n ≡ Window
-      → d ≡ data9Of (plainRead 2 (sites (w .target)) (plains (w .target)) (w .mem) (addr - w .target .base) n 9))
+      → d ≡ data9Of (plainRead (width head) (sites (w .target)) (plains (w .target)) (w .mem) (addr - w .target .base) n 9))
       → RequestCase head w (Request (Tmget addr n)) Nothing (Rmget d) w
   -- written to the window
   put : {addr n : ℕ} {d : Data4} → 0 < n → placeOf (w .target .base) (w .target .size) addr n ≡ Window
-      → RequestCase head w (Request (Tmput addr n d)) Nothing Rmput (windowWritten w addr (take n (bytes4 d)))
+      → RequestCase head w (Request (Tmput addr n d)) Nothing Rmput (windowWritten head w addr (take n (bytes4 d)))
   -- written to the register area, or no bytes at all
   aside : {addr n : ℕ} {d : Data4} (regs : List ℕ)
       → (0 < n → placeOf (w .target .base) (w .target .size) addr n ≡ Window → ⊥)
@@ -96,7 +96,7 @@ pub data RequestCase (head : Head) (w : World) : Parsed → Answer → Message �
       (withTarget w (setState (w .target) (indexOf (w .target) pid) (processNamed w pid .state) 1))
   started : {pid : ℕ} → Known w pid → isStopped (processNamed w pid) ≡ true
       → RequestCase head w (Request (Tstart pid))
-      (passAt (w .target .table .entries) (pcOf (blockAt (w .regs) (indexOf (w .target) pid)))) Rstart
+      (passAt head (w .target .table .entries) (pcOf (blockAt (w .regs) (indexOf (w .target) pid)))) Rstart
       (withTarget w (setState (w .target) (indexOf (w .target) pid) ready 0))
   cleared : {pid : ℕ} → Known w pid → isStopped (processNamed w pid) ≡ false
       → RequestCase head w (Request (Tstart pid)) Nothing Rstart
@@ -107,13 +107,13 @@ pub data RequestCase (head : Head) (w : World) : Parsed → Answer → Message �
       → leb (length (w .target .table .entries)) (firstFree (w .target .table .entries)) ≡ false
       → RequestCase head w (Request (Tcondbreak val op)) Nothing Rcondbreak
       (withTarget w (withDraft (w .target) (begun val)))
-  plants : {val op : ℕ} → eqb op (code "n") ≡ false → eqb op (code "b") ≡ true → inHand w ≡ true → siteFree w val ≡ true
+  plants : {val op : ℕ} → eqb op (code "n") ≡ false → eqb op (code "b") ≡ true → inHand w ≡ true → siteFree head w val ≡ true
       → wellFormed (w .target .table .draft .elements) ≡ true
       → RequestCase head w (Request (Tcondbreak val op)) Nothing Rcondbreak (planted head w val)
   removes : {val op : ℕ} → eqb op (code "n") ≡ false → eqb op (code "b") ≡ false → eqb op (code "d") ≡ true
       → val ≤ 255 → entryOf (w .target .table .entries) val < length (w .target .table .entries)
       → RequestCase head w (Request (Tcondbreak val op)) Nothing Rcondbreak
-      (removed w (entryOf (w .target .table .entries) val))
+      (removed head w (entryOf (w .target .table .entries) val))
   adds : {val op : ℕ} → eqb op (code "n") ≡ false → eqb op (code "b") ≡ false → eqb op (code "d") ≡ false
       → inHand w ≡ true
       → roomFor (w .target .table .draft .elements) (heldOf (w .target .table)) (record { letter = op; value = val })
@@ -146,7 +146,7 @@ pub data EventCase (head : Head) (w : World) : Step → Answer → World → Typ
       (stopWith w (indexOf (w .target) pid) block)
   released : {regs block : List ℕ} {pid : ℕ} → hitAt w block < length (w .target .table .entries)
       → holds head w pid (hit w block) ≡ false
-      → EventCase head w (trapEvent regs pid block) (passOf (hit w block)) w
+      → EventCase head w (trapEvent regs pid block) (passOf head (hit w block)) w
   -- a schedule where a stop is wanted, and where none is
   yielded : {regs block : List ℕ} {pid : ℕ} → Known w pid
       → EventCase head w (scheduleEvent regs pid block) Yes (stopWith w (indexOf (w .target) pid) block)
@@ -220,7 +220,7 @@ module _ (head : Head) (w : World) where
     elsewhere e h q = let r : Registers ≡ Window = sym e ∙ q in let z : _≡_ {A = ℕ} 0 1 = cc in absurd (omega arith)
 
     got-from : 0 < n → (p : Place) → place ≡ p
-        → RequestOutcome w false (RequestCase head w (Request (Tmget addr n))) (gotFrom p w addr n)
+        → RequestOutcome w false (RequestCase head w (Request (Tmget addr n))) (gotFrom head p w addr n)
     unfolding gotFrom isMessage typeOf
     got-from h Registers e =
         on-block _ (λ i. serving Nothing (Rmget _) w refl refl (got _ (elsewhere e)))
@@ -228,7 +228,7 @@ module _ (head : Head) (w : World) where
     got-from h Nowhere e = failing Inval
 
     put-to : (d : Data4) → 0 < n → (p : Place) → place ≡ p
-        → RequestOutcome w false (RequestCase head w (Request (Tmput addr n d))) (putTo p w addr (take n (bytes4 d)))
+        → RequestOutcome w false (RequestCase head w (Request (Tmput addr n d))) (putTo head p w addr (take n (bytes4 d)))
     unfolding putTo isMessage typeOf
     put-to d h Registers e =
         choose (RequestOutcome w false (RequestCase head w (Request (Tmput addr n d)))) (leb addr 3)
@@ -240,14 +240,14 @@ module _ (head : Head) (w : World) where
     some : eqb n 0 ≡ false → 0 < n
     some e = omega (arith, eqb-false n 0 e)
 
-    mget-of : RequestOutcome w false (RequestCase head w (Request (Tmget addr n))) (mget w addr n)
+    mget-of : RequestOutcome w false (RequestCase head w (Request (Tmget addr n))) (mget head w addr n)
     unfolding mget isMessage typeOf
     mget-of =
         choose (RequestOutcome w false (RequestCase head w (Request (Tmget addr n)))) (eqb n 0)
         (λ e. serving Nothing (Rmget _) w refl refl (got _ (λ h q. absurd (omega (arith, eqb-true n 0 e)))))
         (λ e. got-from (some e) place refl)
 
-    mput-of : (d : Data4) → RequestOutcome w false (RequestCase head w (Request (Tmput addr n d))) (mput w addr n d)
+    mput-of : (d : Data4) → RequestOutcome w false (RequestCase head w (Request (Tmput addr n d))) (mput head w addr n d)
     unfolding mput isMessage typeOf
     mput-of d =
         choose (RequestOutcome w false (RequestCase head w (Request (Tmput addr n d)))) (eqb n 0)
@@ -263,7 +263,7 @@ module _ (head : Head) (w : World) where
       choose (RequestOutcome w false (RequestCase head w (Request (Tstop pid)))) (isStopped (processNamed w pid))
       (λ e. serving Nothing Rstop _ refl refl halted) (λ e. serving Nothing Rstop _ refl refl (marked h e)))
 
-  start-of : (pid : ℕ) → RequestOutcome w false (RequestCase head w (Request (Tstart pid))) (start w pid)
+  start-of : (pid : ℕ) → RequestOutcome w false (RequestCase head w (Request (Tstart pid))) (start head w pid)
   unfolding start isMessage typeOf
   start-of pid =
       on-process pid _ (λ h.
@@ -293,12 +293,12 @@ module _ (head : Head) (w : World) where
       unfolding setBreakpoint failed isMessage typeOf
       b-of b =
           let d = w .target .table .draft in
-          choose (By true) (inHand w && siteFree w val && wellFormed (d .elements))
+          choose (By true) (inHand w && siteFree head w val && wellFormed (d .elements))
           (λ e. serving Nothing Rcondbreak _ refl refl (plants n b (search parts) (search parts) (search parts)))
           (λ e. failing Inval)
 
       module _ (b : eqb op (code "b") ≡ false) where
-        d-of : eqb op (code "d") ≡ true → By false (deleteBreakpoint w val)
+        d-of : eqb op (code "d") ≡ true → By false (deleteBreakpoint head w val)
         unfolding deleteBreakpoint isMessage typeOf
         d-of d =
             let es = w .target .table .entries in
@@ -329,7 +329,7 @@ module _ (head : Head) (w : World) where
             → By (not (d && true))
             (cond n (beginCondition w val)
             (cond b (setBreakpoint head w val)
-            (cond d (deleteBreakpoint w val)
+            (cond d (deleteBreakpoint head w val)
             (addElement w (record { letter = op; value = val })))))
         go true x b y true z = absurd (omega (arith, eqb-true op (code "n") x, eqb-true op (code "d") z))
         go true x b y false z = n-of x
@@ -409,7 +409,7 @@ module _ (head : Head) (w : World) where
       on-checks _ (eqb (length l) 10 && eqb (length reply) 10) reply _
       (λ h. past-checks (request-of l reply (and-both (eqb (length l) 10) (eqb (length reply) 10) h .0)))
 
-  pub outcome-restart : (reply : List ℕ) → StepOutcome head w reply (λ o. o ≡ restart w) (restartOf head w reply)
+  pub outcome-restart : (reply : List ℕ) → StepOutcome head w reply (λ o. o ≡ restart head w) (restartOf head w reply)
   unfolding restartOf
   outcome-restart reply = on-checks _ (eqb (length reply) 10) reply _ (λ h. past-checks refl)
 
@@ -468,7 +468,7 @@ module _ {head : Head} (t : Target) (mem : List ℕ) (R : Step → Outcome → T
     → RequestOutcome (world t mem regs) (drops bytes) (RequestCase head (world t mem regs) (parseOf bytes)) o
     → R (request regs bytes reply) o)
     (tells : (e : Step) (a : Answer) (v : World) → EventCase head (world t mem (regsOf e)) e a v → R e (answered a v))
-    (restarts : (regs reply : List ℕ) → R (restartStep regs reply) (restart (world t mem regs))) where
+    (restarts : (regs reply : List ℕ) → R (restartStep regs reply) (restart head (world t mem regs))) where
   on-outcome : (e : Step) {P : Outcome → Type 0} {o : Outcome} → (P o → R e o)
       → StepOutcome head (world t mem (regsOf e)) (bufferOf e) P o → R e o
   on-outcome e f (numbered n h g) = stays e n h g

@@ -1,5 +1,5 @@
 -- A good record, part by part: the window, the processes, the table with its traps. Assumes nothing.
-use mathlib.Core.Path.{_≡_, _∙_}
+use mathlib.Core.Path.{_≡_, sym, _∙_}
 use mathlib.Core.Bool.{true}
 use mathlib.Core.List.{List}
 use Prim.Native.Nat.{ℕ, _+_, _-_, _%_, _<_, _≤_}
@@ -9,8 +9,10 @@ use lib.ListN.{length, getD}
 use Rattle.common.proofs.Same.{parts}
 use Rattle.target_fit.specs.Arrays.{sitesOf}
 use Rattle.target_fit.specs.Fit.{windowFit, processesFit, marksFit, currentFit, draftFit, entryAt, heldOf}
-use Rattle.memory.specs.Head.{Head, trapBytes}
+use Rattle.memory.specs.Head.{Head, width, Lawful}
 use Rattle.memory.specs.Overlay.{siteOver}
+use Rattle.memory.proofs.Site.{site-place, site-same}
+use Rattle.memory.proofs.Lawful.{site-itself, offset-multiple}
 use Rattle.memory.proofs.Slots.{covered-by}
 use Rattle.memory_laws.proofs.Planted.{Planted, planted-at}
 use Rattle.target.specs.View.{Draft, Entry, Table, Target}
@@ -39,13 +41,14 @@ pub record TableParts (head : Head) (base n : ℕ) (u : Table) (mem : List ℕ) 
   pub eight : length (u .entries) ≡ 8
   pub entry : (k : ℕ) → k < 8 → ShapedEntry (entryAt (u .entries) k)
   pub draft : DraftParts (u .draft) (u .entries)
-  pub rows : Rows base n (u .entries)
-  pub planted : Planted (trapBytes head) (sitesOf base (u .entries)) mem
+  pub rows : Rows (width head) base n (u .entries)
+  pub planted : Planted (head .trap) (sitesOf base (u .entries)) mem
   pub sized : length mem ≡ n
   pub held : heldOf u ≤ 128
 
 -- the whole record and its memory
 pub record Parts (head : Head) (t : Target) (mem : List ℕ) : Type 0 where
+  pub lawful : Lawful head
   pub window : windowFit (t .base) (t .size) ≡ true
   pub processes : ProcessParts (t .processes) (t .count) (t .selected) (t .current)
   pub table : TableParts head (t .base) (t .size) (t .table) mem
@@ -57,6 +60,7 @@ module _ {head : Head} (t : Target) (mem : List ℕ) where
       let c = tests-of t mem (g .fit) in
       let f = facts-by head t mem c in
       record {
+        lawful = g .lawful;
         window = c .window;
         processes = record { four = g .shaped .processes; pids = c .processes; marks = c .marks; current = c .current };
         table = record {
@@ -67,7 +71,7 @@ module _ {head : Head} (t : Target) (mem : List ℕ) where
             row = λ k u. let x = f .used k u in
                 record {
                   one = x .one;
-                  even = x .even;
+                  multiple = x .multiple;
                   low = x .low;
                   high = rw (g .sized) at (x .high);
                   whole = x .whole;
@@ -85,7 +89,7 @@ module _ {head : Head} (t : Target) (mem : List ℕ) where
   module _ (c : Parts head t mem) where
     -- a used entry's trap stands in memory
     used-by : (k : ℕ) → Used t k → UsedFacts head t mem (entryAt (t .table .entries) k)
-    unfolding windowFit siteOver
+    unfolding windowFit
     used-by k (h, u) =
         let w = c .window in
         let x = c .table .rows .row k (h, u) in
@@ -94,19 +98,21 @@ module _ {head : Head} (t : Target) (mem : List ℕ) where
         let l : k < length (t .table .entries) = omega (arith, c .table .eight) in
         let at : getD (sites t) k 0 ≡ s = slot-used (t .base) (t .table .entries) k l u in
         let d : k < length (sites t) = omega (arith, length-sites (t .base) (t .table .entries)) in
-        let z : s % 2 ≡ 0 = omega (arith, x .even, x .low) in
-        let o : (s + 1) % 2 ≡ 1 = omega arith in
-        let i : s + 1 < length mem = omega (arith, x .high, c .table .sized) in
-        let p = planted-at (trapBytes head) (sites t) mem (c .table .planted) in
+        let z : siteOver (width head) s ≡ s =
+        site-itself (width head) s (offset-multiple (c .lawful) _ _ b (x .multiple) (x .low)) in
+        let p = planted-at (head .trap) (sites t) mem (c .table .planted) in
         record {
           one = x .one;
-          even = x .even;
+          multiple = x .multiple;
           low = x .low;
-          high = omega arith;
+          high = omega (arith, x .high, c .table .sized);
           whole = x .whole;
           formed = x .formed;
-          trap0 = p s (omega arith) (covered-by 2 (sites t) s k d (at ∙ omega arith)) ∙ rw z;
-          trap1 = p (s + 1) i (covered-by 2 (sites t) (s + 1) k d (at ∙ omega arith)) ∙ rw o;
+          trap = λ j g.
+              let over : siteOver (width head) (s + j) ≡ s = site-same (width head) s j z g in
+              let part : (s + j) % width head ≡ j = omega (arith, site-place (width head) (s + j)) in
+              p (s + j) (omega (arith, x .high, c .table .sized))
+              (covered-by (width head) (sites t) (s + j) k d (at ∙ sym over)) ∙ rw part;
         }
 
     -- a record that has the parts is good
@@ -115,6 +121,7 @@ module _ {head : Head} (t : Target) (mem : List ℕ) where
         let p = c .processes in
         let u = c .table in
         record {
+          lawful = c .lawful;
           shaped = record {
             entries = u .eight;
             entry = u .entry;
@@ -142,7 +149,12 @@ module _ {head : Head} (t : Target) (mem : List ℕ) (g : Good head t mem) where
   unfolding withTable
   good-table u mem′ c =
       let o = parts-of t mem g in
-      good-of (withTable t u) mem′ (record { window = o .window; processes = o .processes; table = c })
+      good-of (withTable t u) mem′ (record {
+        lawful = o .lawful;
+        window = o .window;
+        processes = o .processes;
+        table = c;
+      })
 
   -- the processes
   pub good-processes : (ps : List Process) → ProcessParts ps (t .count) (t .selected) (t .current)
@@ -150,7 +162,12 @@ module _ {head : Head} (t : Target) (mem : List ℕ) (g : Good head t mem) where
   unfolding withProcesses
   good-processes ps c =
       let o = parts-of t mem g in
-      good-of (withProcesses t ps) mem (record { window = o .window; processes = c; table = o .table })
+      good-of (withProcesses t ps) mem (record {
+        lawful = o .lawful;
+        window = o .window;
+        processes = c;
+        table = o .table;
+      })
 
   -- the current process
   pub good-current : (selected pid : ℕ) → currentFit selected pid (t .processes) (t .count) ≡ true
@@ -160,6 +177,7 @@ module _ {head : Head} (t : Target) (mem : List ℕ) (g : Good head t mem) where
       let o = parts-of t mem g in
       let p = o .processes in
       good-of (withCurrent t selected pid) mem (record {
+        lawful = o .lawful;
         window = o .window;
         table = o .table;
         processes = record { four = p .four; pids = p .pids; marks = p .marks; current = e };

@@ -9,6 +9,7 @@ use lib.ListN.{length, getD, set, replicate, length-map, List·getD-map, getD-re
 use Rattle.common.proofs.Lists.{map-set}
 use Rattle.pool_rows.specs.Rows.{total}
 use Rattle.pool_rows.proofs.Places.{total-set}
+use Rattle.target.specs.Limits.{plainRoom}
 use Rattle.target.specs.Free.{isFree}
 use Rattle.target.specs.Fresh.{noEntry, closedDraft}
 use Rattle.target.specs.View.{Draft, Entry, Table}
@@ -27,7 +28,7 @@ held-set es k e h =
 pub held-with : (es : List Entry) (bytes : List ℕ) → entriesHeld (withPlains es bytes) ≡ entriesHeld es
 unfolding entriesHeld withPlains placesOf isFree total
 held-with [] bytes = refl
-held-with (e ∷ es) bytes = ap (λ (n : ℕ). placesOf e + n) (held-with es (drop 2 bytes))
+held-with (e ∷ es) bytes = ap (λ (n : ℕ). placesOf e + n) (held-with es (drop plainRoom bytes))
 
 -- a used entry holds its count, a free one nothing
 pub places-used : (e : Entry) → isFree e ≡ false → placesOf e ≡ e .count

@@ -6,6 +6,7 @@ use Prim.Native.Nat.{ℕ}
 use native.Mathlib.Omega.{arith}
 use Rattle.rules.specs.Claim.{step}
 use Rattle.rules.specs.Places.{setBy, withoutHand, countCondbreak, countServed, countRequest, counted, HoldsCount}
+use Rattle.memory.specs.Head.{house}
 use Rattle.rules.specs.Places.{PlacesHeld, countingStub, ownPlaces, takes, neverGivesBack, isDropped}
 use Rattle.rules.specs.Places.{countsRefused}
 use Rattle.rules.specs.Stubs.{asking}
@@ -14,7 +15,7 @@ use Rattle.rules.proofs.Computes.{claim-computes}
 use Rattle.rules.proofs.Worked.{setup-accepted}
 
 -- n 1, p 5 and n 1 again: the place of the element is given back
-pub given-back : PlacesHeld (countingStub neverGivesBack) ownPlaces → ⊥
+pub given-back : PlacesHeld house (countingStub neverGivesBack) ownPlaces → ⊥
 unfolding claim-computes setBy withoutHand countCondbreak countServed countRequest counted HoldsCount takes
     neverGivesBack
 given-back d =
@@ -25,7 +26,7 @@ given-back d =
     omega arith
 
 -- p 5 with nothing in hand
-pub refused-uncounted : PlacesHeld (countingStub countsRefused) ownPlaces → ⊥
+pub refused-uncounted : PlacesHeld house (countingStub countsRefused) ownPlaces → ⊥
 unfolding claim-computes setBy withoutHand countCondbreak countServed countRequest counted HoldsCount isDropped
     countsRefused
 refused-uncounted d =

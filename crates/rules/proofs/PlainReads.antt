@@ -6,7 +6,7 @@ use mathlib.Core.List.{List, [], _∷_, List·Memᴰ, List·Memᴰ·head, List·
 use mathlib.Core.List.{List·Memᴰ·cases-cons}
 use mathlib.Core.Logic.{⊎-elim}
 use Prim.Native.Nat.{ℕ, _+_, _-_, _%_, _≤_, _<_}
-use native.Mathlib.Nat.{add-zero}
+use native.Mathlib.Nat.{zero-add, add-zero}
 use native.Mathlib.Omega.{arith}
 use borrow.Author.Tests.{leb-true, leb-false, ltb-true, eqb-true, eqb-false, le-leb, lt-leb}
 use lib.Dec.{leb, ltb, eqb}
@@ -17,15 +17,18 @@ use Rattle.condition.specs.Evaluate.{evalFrom, evaluateOf, fetchOf}
 use Rattle.condition.specs.declared.Fetched.{Fetched}
 use Rattle.condition.specs.declared.Fetched.the-variants.{Word, Outside}
 use Rattle.target_fit.specs.Fit.{processAt, entryAt}
-use Rattle.memory.specs.Head.{Head}
+use Rattle.memory.specs.Head.{Head, width}
 use Rattle.memory.specs.Overlay.{siteOver, slotOf, plainAt, plainOf}
 use Rattle.memory.specs.Place.{placeOf}
 use Rattle.memory.specs.Write.{bytesAt, plainRead}
 use Rattle.memory.specs.declared.Place.the-variants.{Window}
 use Rattle.common.proofs.Cases.{on-test}
+use Rattle.common.proofs.Fill.{fill-ext}
+use Rattle.target.specs.Limits.{plainRoom}
 use Rattle.memory.proofs.Bytes.{plain-at, plain-under}
 use Rattle.memory_laws.proofs.Laws.{read-plain}
 use Rattle.memory.proofs.Site.{site-place, site-same}
+use Rattle.memory.proofs.Lawful.{width-fits}
 use Rattle.memory.proofs.Slots.{covered-by, slot-only as slot-of}
 use Rattle.request_parse.specs.Request.{parseOf}
 use Rattle.request_parse.specs.declared.Parsed.{Parsed}
@@ -36,7 +39,7 @@ use Rattle.wire.specs.declared.Message.{Message}
 use Rattle.wire.specs.declared.Message.the-variants.{Tmget, Tmput, Tproc, Tstatus, Trnote, Tstop, Tstart, Tcondbreak}
 use Rattle.wire.specs.declared.Message.the-variants.{Rerr, Rmget, Rmput, Rproc, Rstatus, Rrnote, Rstop, Rstart}
 use Rattle.wire.specs.declared.Message.the-variants.{Rcondbreak}
-use Rattle.rules.specs.Outcome.{World, world, Outcome, answered, refused, repliedWith, error}
+use Rattle.rules.specs.Outcome.{World, world, Outcome, passWith, answered, refused, repliedWith, error}
 use Rattle.rules.specs.Record.{indexOf, isStopped, blockAt, pcOf}
 use Rattle.rules.specs.Breakpoint.{sites, plains, breakpointAt, passOf, passAt}
 use Rattle.rules.specs.Request.{data9Of}
@@ -63,34 +66,34 @@ use Rattle.rules.proofs.Outcomes.{caught, released}
 use Rattle.rules.proofs.Outcomes.{yielded, ran, became}
 
 -- what the book says of a request: a Tmget of the window answers plain memory's bytes, and a Tstart those at its pc
-unfoldable pub ReadsMessage : Setup → Book → List ℕ → Message → Answer → List ℕ → Type 0
-ReadsMessage s b regs (Tmget addr n) x reply = inWindow s addr n ≡ true → reply ≡ readBy s b addr n
-ReadsMessage s b regs (Tmput addr n d) x reply = Unit
-ReadsMessage s b regs (Tproc pid) x reply = Unit
-ReadsMessage s b regs (Tstatus pid) x reply = Unit
-ReadsMessage s b regs (Trnote pid) x reply = Unit
-ReadsMessage s b regs (Tstop pid) x reply = Unit
-ReadsMessage s b regs (Tstart pid) x reply = x ≡ startBy s b regs pid
-ReadsMessage s b regs (Tcondbreak val op) x reply = Unit
-ReadsMessage s b regs (Rerr r) x reply = Unit
-ReadsMessage s b regs (Rmget d) x reply = Unit
-ReadsMessage s b regs Rmput x reply = Unit
-ReadsMessage s b regs (Rproc addr) x reply = Unit
-ReadsMessage s b regs (Rstatus v) x reply = Unit
-ReadsMessage s b regs Rrnote x reply = Unit
-ReadsMessage s b regs Rstop x reply = Unit
-ReadsMessage s b regs Rstart x reply = Unit
-ReadsMessage s b regs Rcondbreak x reply = Unit
+unfoldable pub ReadsMessage : Head → Setup → Book → List ℕ → Message → Answer → List ℕ → Type 0
+ReadsMessage h s b regs (Tmget addr n) x reply = inWindow s addr n ≡ true → reply ≡ readBy s b addr n
+ReadsMessage h s b regs (Tmput addr n d) x reply = Unit
+ReadsMessage h s b regs (Tproc pid) x reply = Unit
+ReadsMessage h s b regs (Tstatus pid) x reply = Unit
+ReadsMessage h s b regs (Trnote pid) x reply = Unit
+ReadsMessage h s b regs (Tstop pid) x reply = Unit
+ReadsMessage h s b regs (Tstart pid) x reply = x ≡ startBy h s b regs pid
+ReadsMessage h s b regs (Tcondbreak val op) x reply = Unit
+ReadsMessage h s b regs (Rerr r) x reply = Unit
+ReadsMessage h s b regs (Rmget d) x reply = Unit
+ReadsMessage h s b regs Rmput x reply = Unit
+ReadsMessage h s b regs (Rproc addr) x reply = Unit
+ReadsMessage h s b regs (Rstatus v) x reply = Unit
+ReadsMessage h s b regs Rrnote x reply = Unit
+ReadsMessage h s b regs Rstop x reply = Unit
+ReadsMessage h s b regs Rstart x reply = Unit
+ReadsMessage h s b regs Rcondbreak x reply = Unit
 
-unfoldable pub ReadsRequest : Setup → Book → List ℕ → Parsed → Answer → List ℕ → Type 0
-ReadsRequest s b regs (Request m) x reply = ReadsMessage s b regs m x reply
-ReadsRequest s b regs (Refused r) x reply = Unit
-ReadsRequest s b regs NotTen x reply = Unit
+unfoldable pub ReadsRequest : Head → Setup → Book → List ℕ → Parsed → Answer → List ℕ → Type 0
+ReadsRequest h s b regs (Request m) x reply = ReadsMessage h s b regs m x reply
+ReadsRequest h s b regs (Refused r) x reply = Unit
+ReadsRequest h s b regs NotTen x reply = Unit
 
 -- what the book says of one step
 unfoldable pub RightStep : Head → Setup → Book → Step → Outcome → Type 0
 RightStep h s b (request regs bytes buffer) o = isAccepted (o .number) (o .reply) ≡ true
-    → ReadsRequest s b regs (parseOf bytes) (o .answer) (o .reply)
+    → ReadsRequest h s b regs (parseOf bytes) (o .answer) (o .reply)
 RightStep h s b (trapEvent regs pid block) o = o .number ≡ 0 → o .answer ≡ trapBy h s b pid block
 RightStep h s b (scheduleEvent regs pid block) o = Unit
 RightStep h s b (stateEvent regs pid value) o = Unit
@@ -101,7 +104,7 @@ module _ {head : Head} (s : Setup) (b : Book) (t : Target) (mem : List ℕ) (a :
 
   reads-got : (addr n : ℕ) (d : Data9)
       → (0 < n → placeOf (t .base) (t .size) addr n ≡ Window
-      → d ≡ data9Of (plainRead 2 (sites t) (plains t) mem (addr - t .base) n 9))
+      → d ≡ data9Of (plainRead (width head) (sites t) (plains t) mem (addr - t .base) n 9))
       → inWindow s addr n ≡ true
       → bytesOf (Rmget d) ≡ readBy s b addr n
   unfolding readBy
@@ -112,23 +115,23 @@ module _ {head : Head} (s : Setup) (b : Book) (t : Target) (mem : List ℕ) (a :
         same (i .0) (i .1),
         ap (λ (k : ℕ). addr - k) (sym (a .follows .base)),
         ← (a .follows .plain),
-        read-plain 2 (sites t) (plains t) mem (addr - t .base) n 9 (omega (arith, end .0, end .1, a .good .sized)),
+        read-plain (width head) (sites t) (plains t) mem (addr - t .base) n 9 (omega (arith, end .0, end .1, a .good .sized)),
       )
 
   -- ---- what * reads
 
   -- four plain bytes, one by one
   four-bytes : (at : ℕ) → at + 4 ≤ length mem
-      → plainAt 2 (sites t) (plains t) mem at ∷ plainAt 2 (sites t) (plains t) mem (at + 1) ∷ plainAt 2 (sites t)
+      → plainAt (width head) (sites t) (plains t) mem at ∷ plainAt (width head) (sites t) (plains t) mem (at + 1) ∷ plainAt (width head) (sites t)
       (plains t) mem (at + 2)
-      ∷ plainAt 2 (sites t) (plains t) mem (at + 3) ∷ []
-      ≡ bytesAt (plainOf 2 (sites t) (plains t) mem) at 4 4
+      ∷ plainAt (width head) (sites t) (plains t) mem (at + 3) ∷ []
+      ≡ bytesAt (plainOf (width head) (sites t) (plains t) mem) at 4 4
   unfolding plainRead tab
   four-bytes at h =
-      ap (λ (k : ℕ). plainAt 2 (sites t) (plains t) mem k ∷ plainAt 2 (sites t) (plains t) mem (at + 1)
-      ∷ plainAt 2 (sites t) (plains t) mem (at + 2) ∷ plainAt 2 (sites t) (plains t) mem (at + 3) ∷ [])
+      ap (λ (k : ℕ). plainAt (width head) (sites t) (plains t) mem k ∷ plainAt (width head) (sites t) (plains t) mem (at + 1)
+      ∷ plainAt (width head) (sites t) (plains t) mem (at + 2) ∷ plainAt (width head) (sites t) (plains t) mem (at + 3) ∷ [])
       (sym (add-zero at))
-      ∙ read-plain 2 (sites t) (plains t) mem at 4 4 h
+      ∙ read-plain (width head) (sites t) (plains t) mem at 4 4 h
 
   -- four bytes lie in the window, by offset and by address
   inside : (x : ℕ) → (leb (t .base) x && leb (x - t .base + 4) (length mem))
@@ -144,7 +147,7 @@ module _ {head : Head} (s : Setup) (b : Book) (t : Target) (mem : List ℕ) (a :
 
   -- a word is the book's, whatever names its window and its plain memory have
   reads-word : (base size : ℕ) (plain : List ℕ) → t .base ≡ base → t .size ≡ size
-      → plainOf 2 (sites t) (plains t) mem ≡ plain → (x : ℕ)
+      → plainOf (width head) (sites t) (plains t) mem ≡ plain → (x : ℕ)
       → fetchOf head (sites t) (plains t) mem (t .base) x
       ≡ cond (leb base x && leb (x + 4) (base + size)) (Word (head .word (bytesAt plain (x - base) 4 4))) Outside
   unfolding fetchOf
@@ -160,43 +163,44 @@ module _ {head : Head} (s : Setup) (b : Book) (t : Target) (mem : List ℕ) (a :
 
   -- ---- the bytes of Pass
 
-  reads-pass : (k r : ℕ) → Used t k → r < 2
+  reads-pass : (k r : ℕ) → Used t k → r < width head
       → getD (entryAt (t .table .entries) k .plain) r 0
       ≡ getD (b .plain) (entryAt (t .table .entries) k .site - s .base + r) 0
   reads-pass k r u h =
+      let w : ℕ = width head in
       let z : ℕ = entryAt (t .table .entries) k .site - t .base in
       let i : ℕ = z + r in
       let slot : getD (sites t) k 0 ≡ z = slot-used t mem (a .good) k u in
-      let over : siteOver 2 i ≡ z =
-      site-same 2 z r (ap (siteOver 2) (sym slot) ∙ slot-multiple t mem (a .good) k u ∙ slot) h in
-      let part : i % 2 ≡ r = omega (arith, site-place 2 i) in
+      let over : siteOver w i ≡ z =
+      site-same w z r (ap (siteOver w) (sym slot) ∙ slot-multiple t mem (a .good) k u ∙ slot) h in
+      let part : i % w ≡ r = omega (arith, site-place w i) in
       let size : length (sites t) ≡ 8 = eight-sites t mem (a .good) in
       let below : k < length (sites t) = omega (arith, u .0) in
-      let this : slotOf 2 (sites t) i ≡ k =
-      slot-of 2 (sites t) i k below (slot ∙ sym over) (λ j g q. slot-only t mem (a .good) j k (omega arith) u q) in
+      let this : slotOf w (sites t) i ≡ k =
+      slot-of w (sites t) i k below (slot ∙ sym over) (λ j g q. slot-only t mem (a .good) j k (omega arith) u q) in
       let within : i < length mem = omega (arith, facts-of t mem (a .good) .used k u .high) in
-      sym (slot-byte t mem (a .good) k r (u .0) h)
-      ∙ sym (plain-under 2 (sites t) (plains t) mem i (covered-by 2 (sites t) i k below (slot ∙ sym over))
+      sym (slot-byte t mem (a .good) k r (u .0) (omega (arith, width-fits (a .good .lawful))))
+      ∙ sym (plain-under w (sites t) (plains t) mem i (covered-by w (sites t) i k below (slot ∙ sym over))
       ∙ rw (this, part))
-      ∙ sym (plain-at 2 (sites t) (plains t) mem i within)
+      ∙ sym (plain-at w (sites t) (plains t) mem i within)
       ∙ ap (λ (l : List ℕ). getD l i 0) (a .follows .plain)
       ∙ ap (λ (n : ℕ). getD (b .plain) (entryAt (t .table .entries) k .site - n + r) 0) (a .follows .base)
 
   -- the bytes of a breakpoint are plain memory's at its site
   passes : (k : ℕ) → Used t k
-      → passOf (entryAt (t .table .entries) k) ≡ passBy s b (entryAt (t .table .entries) k .site)
-  unfolding passOf passBy
+      → passOf head (entryAt (t .table .entries) k) ≡ passBy head s b (entryAt (t .table .entries) k .site)
+  unfolding passOf passBy bytesAt
   passes k u =
-      let site = entryAt (t .table .entries) k .site in
-      let first : getD (entryAt (t .table .entries) k .plain) 0 0 ≡ getD (b .plain) (site - s .base) 0 =
-      reads-pass k 0 u (omega arith) ∙ rw add-zero in
-      rw (first, reads-pass k 1 u (omega arith))
+      ap passWith
+      (fill-ext (λ j. getD (entryAt (t .table .entries) k .plain) (0 + j) 0) (λ _. 0) (width head) plainRoom
+      (λ j. getD (b .plain) (entryAt (t .table .entries) k .site - s .base + j) 0)
+      (λ j h. rw (zero-add j) (reads-pass k j u h)))
 
   -- ---- a Tstart of a Stopped process
 
   reads-started : (regs : List ℕ) (pid : ℕ) → indexOf t pid < t .count
       → isStopped (processAt (t .processes) (indexOf t pid)) ≡ true
-      → passAt (t .table .entries) (pcOf (blockAt regs (indexOf t pid))) ≡ startBy s b regs pid
+      → passAt head (t .table .entries) (pcOf (blockAt regs (indexOf t pid))) ≡ startBy head s b regs pid
   unfolding passAt startBy
   reads-started regs pid h e =
       let es = t .table .entries in
@@ -204,12 +208,12 @@ module _ {head : Head} (s : Setup) (b : Book) (t : Target) (mem : List ℕ) (a :
       rw (its-block s b t mem a regs pid, sym (same-stopped s b t mem a pid h) ∙ e, ← (same-site s b t mem a pc))
       (on-test (ltb (breakpointAt es pc) (length es))
       (λ f. let k = ltb-true _ _ f in
-      rw f (passes _ (used-at es pc (a .good .shaped .entries) k) ∙ ap (passBy s b) (at-site es pc k)))
+      rw f (passes _ (used-at es pc (a .good .shaped .entries) k) ∙ ap (passBy head s b) (at-site es pc k)))
       (λ f. rw f))
 
   -- and of any other
   reads-cleared : (regs : List ℕ) (pid : ℕ) → indexOf t pid < t .count
-      → isStopped (processAt (t .processes) (indexOf t pid)) ≡ false → Nothing ≡ startBy s b regs pid
+      → isStopped (processAt (t .processes) (indexOf t pid)) ≡ false → Nothing ≡ startBy head s b regs pid
   unfolding startBy
   reads-cleared regs pid h e = rw (sym (same-stopped s b t mem a pid h) ∙ e)
 
@@ -255,7 +259,7 @@ module _ {head : Head} (s : Setup) (b : Book) (t : Target) (mem : List ℕ) (a :
   -- ---- every step
 
   reads-left : {regs : List ℕ} {p : Parsed} {x : Answer} {q : Message} {v : World}
-      → RequestCase head (world t mem regs) p x q v → ReadsRequest s b regs p x (bytesOf q)
+      → RequestCase head (world t mem regs) p x q v → ReadsRequest head s b regs p x (bytesOf q)
   unfolding ReadsRequest ReadsMessage
   reads-left (got d h) = reads-got _ _ d h
   reads-left (put h p) = tt
@@ -274,7 +278,7 @@ module _ {head : Head} (s : Setup) (b : Book) (t : Target) (mem : List ℕ) (a :
 
   reads-served : {regs : List ℕ} {d : Bool} {p : Parsed} {o : Outcome}
       → RequestOutcome (world t mem regs) d (RequestCase head (world t mem regs) p) o
-      → isAccepted (o .number) (o .reply) ≡ true → ReadsRequest s b regs p (o .answer) (o .reply)
+      → isAccepted (o .number) (o .reply) ≡ true → ReadsRequest head s b regs p (o .answer) (o .reply)
   unfolding repliedWith error isAccepted bytesOf typeOf
   reads-served (serving x m v h e l) z = reads-left l
   reads-served (failing r) z = true-or-false z

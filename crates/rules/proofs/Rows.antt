@@ -17,18 +17,18 @@ use Rattle.rules.specs.Request.{withPlains}
 use Rattle.rules.proofs.Facts.{UsedIn, Differ}
 use Rattle.rules.proofs.Slots.{withPlain, with-at}
 
--- a used entry over a window of n bytes at base
-pub record Row (base n : ℕ) (e : Entry) : Type 0 where
+-- a used entry over a window of n bytes at base, where traps have w bytes
+pub record Row (w base n : ℕ) (e : Entry) : Type 0 where
   pub one : e .used ≡ 1
-  pub even : e .site % 2 ≡ 0
+  pub multiple : e .site % w ≡ 0
   pub low : base ≤ e .site
-  pub high : e .site - base + 2 ≤ n
+  pub high : e .site - base + w ≤ n
   pub whole : length (e .elements) ≡ e .count
   pub formed : wellFormed (e .elements) ≡ true
 
 -- every used entry of a table
-pub record Rows (base n : ℕ) (es : List Entry) : Type 0 where
-  pub row : (k : ℕ) → UsedIn es k → Row base n (entryAt es k)
+pub record Rows (w base n : ℕ) (es : List Entry) : Type 0 where
+  pub row : (k : ℕ) → UsedIn es k → Row w base n (entryAt es k)
   pub ids : Differ (λ e. e .id) es
   pub sites : Differ (λ e. e .site) es
 
@@ -55,12 +55,12 @@ module _ (es : List Entry) (size : length es ≡ 8) (k : ℕ) (e : Entry) (h : k
       ui
 
   -- a table stays right where what is stored is free, or right and new
-  pub rows-set : (base n : ℕ) → Rows base n es
-      → (isFree e ≡ false → Row base n e) → (isFree e ≡ false → New (λ x. x .id))
+  pub rows-set : (w base n : ℕ) → Rows w base n es
+      → (isFree e ≡ false → Row w base n e) → (isFree e ≡ false → New (λ x. x .id))
       → (isFree e ≡ false → New (λ x. x .site))
-      → Rows base n (set es k e)
-  rows-set base n r row ids sites = record {
-    row = λ j u. stored-at (λ x. isFree x ≡ false → Row base n x) j (λ q. row) (λ m v. r .row j (u .0, v)) (u .1);
+      → Rows w base n (set es k e)
+  rows-set w base n r row ids sites = record {
+    row = λ j u. stored-at (λ x. isFree x ≡ false → Row w base n x) j (λ q. row) (λ m v. r .row j (u .0, v)) (u .1);
     ids = differ-set (λ x. x .id) (r .ids) ids;
     sites = differ-set (λ x. x .site) (r .sites) sites;
   }
@@ -85,14 +85,14 @@ module _ (es : List Entry) (size : length es ≡ 8) (bytes : List ℕ) where
       old j k (used-with j u) (used-with k v) (sym (with-same key same j (u .0)) ∙ s ∙ with-same key same k (v .0))
 
   -- a table stays right
-  pub rows-with : (base n : ℕ) → Rows base n es → Rows base n (withPlains es bytes)
-  rows-with base n r = record {
+  pub rows-with : (w base n : ℕ) → Rows w base n es → Rows w base n (withPlains es bytes)
+  rows-with w base n r = record {
     row = λ k u.
         let x = r .row k (used-with k u) in
         rw (with-at es bytes k (omega (arith, u .0)))
         (record {
           one = x .one;
-          even = x .even;
+          multiple = x .multiple;
           low = x .low;
           high = x .high;
           whole = x .whole;
@@ -108,8 +108,8 @@ pub fresh-free : (k : ℕ) → k < 8 → isFree (entryAt (replicate 8 freshEntry
 unfolding isFree
 fresh-free k h = ap isFree (getD-replicate 8 k freshEntry noEntry h)
 
-pub rows-fresh : (base n : ℕ) → Rows base n (replicate 8 freshEntry)
-rows-fresh base n = record {
+pub rows-fresh : (w base n : ℕ) → Rows w base n (replicate 8 freshEntry)
+rows-fresh w base n = record {
   row = λ k u. none k u;
   ids = λ j k u v s. none j u;
   sites = λ j k u v s. none j u;

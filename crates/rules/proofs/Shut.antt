@@ -117,18 +117,18 @@ reads-real c = apart (c zeroed twoRead (replicate 10 0) 4_104 2 refl refl refl r
 
 evaluates-real : SaysAfter trapPart (stubOf (readsReal 2)) case10 trapAt → ⊥
 unfolding claim-computes
-evaluates-real c = apart (ap answerBytes (c zeroed trapBlock 5 refl refl)) refl
+evaluates-real c = apart (ap (answerBytes house) (c zeroed trapBlock 5 refl refl)) refl
 
 abbrev startBytes : List ℕ
 startBytes = highFirst 10 0x0e_00000005_0000000000
 
 starts-real : SaysAfter startPart (stubOf (readsReal 1)) (case4 ++ (trapAt ∷ [])) continued → ⊥
 unfolding claim-computes
-starts-real c = apart (ap answerBytes (c stoppedArea startBytes (replicate 10 0) 5 refl refl refl)) refl
+starts-real c = apart (ap (answerBytes house) (c stoppedArea startBytes (replicate 10 0) 5 refl refl refl)) refl
 
 starts-silent : SaysAfter startPart (stubOf answersNothing) (case4 ++ (trapAt ∷ [])) continued → ⊥
 unfolding claim-computes
-starts-silent c = apart (ap answerBytes (c stoppedArea startBytes (replicate 10 0) 5 refl refl refl)) refl
+starts-silent c = apart (ap (answerBytes house) (c stoppedArea startBytes (replicate 10 0) 5 refl refl refl)) refl
 
 removes-at-start : RealAfter (stubOf removesAtStart) (case4 ++ (trapAt ∷ continued ∷ [])) → ⊥
 unfolding claim-computes
@@ -140,7 +140,7 @@ finds-no-site c = apart (ap one (c zeroed trapBlock 5 refl)) refl
 
 never-stops : SaysAfter answerPart (stubOf neverStops) (asking 0x0c_00000005_0000000000 ∷ []) scheduled → ⊥
 unfolding claim-computes
-never-stops c = apart (ap answerBytes c) refl
+never-stops c = apart (ap (answerBytes house) c) refl
 
 accepts-states : SaysAfter numberPart (stubOf acceptsStates) [] (stateEvent zeroed 5 8) → ⊥
 unfolding claim-computes
@@ -148,7 +148,7 @@ accepts-states c = apart (ap one c) refl
 
 answers-states : SaysAfter answerPart (stubOf answersStates) [] (stateEvent zeroed 5 9) → ⊥
 unfolding claim-computes
-answers-states c = apart (ap answerBytes c) refl
+answers-states c = apart (ap (answerBytes house) c) refl
 
 zero-restart : SaysAfter replyPart (stubOf zeroRestart) [] restartNow → ⊥
 unfolding claim-computes

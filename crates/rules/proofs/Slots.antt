@@ -11,9 +11,10 @@ use Rattle.common.specs.First.{firstOf}
 use Rattle.common.proofs.Lists.{map-set}
 use Rattle.common.proofs.Tab.{map-at}
 use Rattle.memory.specs.Overlay.{freeSite}
-use Rattle.target_fit.proofs.Slots.{TwoEach}
+use Rattle.target_fit.proofs.Slots.{Roomy}
 use Rattle.target_fit.specs.Arrays.{freeId, idOf, siteOf, idsOf, sitesOf, plainsOf}
 use Rattle.target_fit.specs.Fit.{entryAt}
+use Rattle.target.specs.Limits.{plainRoom}
 use Rattle.target.specs.Free.{isFree, firstFree}
 use Rattle.target.specs.Fresh.{noEntry}
 use Rattle.target.specs.View.{Entry}
@@ -91,46 +92,46 @@ withPlain e p = record {
 pub length-with : (es : List Entry) (bytes : List ℕ) → length (withPlains es bytes) ≡ length es
 unfolding withPlains
 length-with [] bytes = refl
-length-with (e ∷ es) bytes = ap suc (length-with es (drop 2 bytes))
+length-with (e ∷ es) bytes = ap suc (length-with es (drop plainRoom bytes))
 
--- entry k has bytes 2k and 2k + 1
+-- entry k has the bytes of its room
 pub with-at : (es : List Entry) (bytes : List ℕ) (k : ℕ) → k < length es
-    → entryAt (withPlains es bytes) k ≡ withPlain (entryAt es k) (take 2 (drop (k * 2) bytes))
+    → entryAt (withPlains es bytes) k ≡ withPlain (entryAt es k) (take plainRoom (drop (k * plainRoom) bytes))
 unfolding withPlains
 with-at [] bytes k h = absurd (not-suc-le-zero h)
 with-at (e ∷ es) bytes zero h = refl
 with-at (e ∷ es) bytes (suc k) h =
-    let p : suc k * 2 ≡ 2 + k * 2 = omega arith in
-    with-at es (drop 2 bytes) k (le-of-suc-le-suc h)
-    ∙ ap (λ (l : List ℕ). withPlain (entryAt es k) (take 2 l)) (drop-drop (k * 2) 2 bytes
+    let p : suc k * plainRoom ≡ plainRoom + k * plainRoom = omega arith in
+    with-at es (drop plainRoom bytes) k (le-of-suc-le-suc h)
+    ∙ ap (λ (l : List ℕ). withPlain (entryAt es k) (take plainRoom l)) (drop-drop (k * plainRoom) plainRoom bytes
     ∙ ap (λ (n : ℕ). drop n bytes) (sym p))
 
 -- the slots' plain bytes are those that were put in
-pub plains-with : (es : List Entry) (bytes : List ℕ) → length bytes ≡ length es * 2
+pub plains-with : (es : List Entry) (bytes : List ℕ) → length bytes ≡ length es * plainRoom
     → plainsOf (withPlains es bytes) ≡ bytes
 unfolding withPlains plainsOf
 plains-with [] [] h = refl
 plains-with [] (b ∷ bs) h = absurd (omega arith)
 plains-with (e ∷ es) bytes h =
-    rw (plains-with es (drop 2 bytes) (omega (arith, length-drop 2 bytes))) (take-append-drop 2 bytes)
+    rw (plains-with es (drop plainRoom bytes) (omega (arith, length-drop plainRoom bytes))) (take-append-drop plainRoom bytes)
 
 -- and the table with its own plain bytes put in is the table
-pub with-plains : (es : List Entry) → TwoEach es → withPlains es (plainsOf es) ≡ es
+pub with-plains : (es : List Entry) → Roomy es → withPlains es (plainsOf es) ≡ es
 unfolding withPlains plainsOf
-with-plains [] two = refl
-with-plains (e ∷ es) two =
-    let z : length (e .plain) ≡ 2 = two 0 (omega arith) in
-    ap (λ (p : List ℕ). withPlain e p ∷ withPlains es (drop 2 (e .plain ++ plainsOf es)))
-    (take-at (e .plain) (plainsOf es) 2 z)
-    ∙ ap (λ (l : List ℕ). e ∷ withPlains es l) (drop-at (e .plain) (plainsOf es) 2 z)
-    ∙ ap (λ (l : List Entry). e ∷ l) (with-plains es (λ k h. two (suc k) (omega arith)))
+with-plains [] room = refl
+with-plains (e ∷ es) room =
+    let z : length (e .plain) ≡ plainRoom = room 0 (omega arith) in
+    ap (λ (p : List ℕ). withPlain e p ∷ withPlains es (drop plainRoom (e .plain ++ plainsOf es)))
+    (take-at (e .plain) (plainsOf es) plainRoom z)
+    ∙ ap (λ (l : List ℕ). e ∷ withPlains es l) (drop-at (e .plain) (plainsOf es) plainRoom z)
+    ∙ ap (λ (l : List Entry). e ∷ l) (with-plains es (λ k h. room (suc k) (omega arith)))
 
 -- what does not look at the plain bytes is as it was
 module _ {A : Type 0} (f : Entry → A) (same : (e : Entry) (p : List ℕ) → f (withPlain e p) ≡ f e) where
   map-with : (es : List Entry) (bytes : List ℕ) → map f (withPlains es bytes) ≡ map f es
   unfolding withPlains
   map-with [] bytes = refl
-  map-with (e ∷ es) bytes = rw (same e (take 2 bytes), map-with es (drop 2 bytes))
+  map-with (e ∷ es) bytes = rw (same e (take plainRoom bytes), map-with es (drop plainRoom bytes))
 
 pub sites-with : (base : ℕ) (es : List Entry) (bytes : List ℕ) → sitesOf base (withPlains es bytes) ≡ sitesOf base es
 unfolding sitesOf siteOf isFree
@@ -143,4 +144,4 @@ ids-with es bytes = map-with idOf (λ e p. refl) es bytes
 pub first-with : (es : List Entry) (bytes : List ℕ) → firstFree (withPlains es bytes) ≡ firstFree es
 unfolding firstFree firstOf withPlains isFree
 first-with [] bytes = refl
-first-with (e ∷ es) bytes = ap (λ (n : ℕ). cond (isFree e) 0 (suc n)) (first-with es (drop 2 bytes))
+first-with (e ∷ es) bytes = ap (λ (n : ℕ). cond (isFree e) 0 (suc n)) (first-with es (drop plainRoom bytes))

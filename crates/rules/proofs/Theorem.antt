@@ -9,7 +9,8 @@ use mathlib.Core.Option.{none}
 use Prim.Native.Nat.{ℕ}
 use borrow.Author.Tests.{eqb-false}
 use lib.ListN.{set}
-use Rattle.memory.specs.Head.{Head}
+use Rattle.memory.proofs.Lawful.{house-lawful}
+use Rattle.memory.specs.Head.{Head, width, Lawful}
 use Rattle.memory.specs.Overlay.{covered}
 use Rattle.request_parse.specs.Request.{parseOf}
 use Rattle.request_parse.specs.declared.Parsed.the-variants.{Request}
@@ -56,7 +57,7 @@ module _ (s : Setup) where
   begun = setupTarget (s .base) (s .size) (s .pids) (s .addresses) (s .count)
 
   -- its record follows the book that is opened
-  follows-setup : {head : Head} → Good head begun (s .mem) → Follows s (opened s) begun (s .mem)
+  follows-setup : {head : Head} → Good head begun (s .mem) → Follows head s (opened s) begun (s .mem)
   unfolding setupTarget opened
   follows-setup good =
       let f = facts-of begun (s .mem) good in
@@ -65,7 +66,7 @@ module _ (s : Setup) where
         size = refl;
         count = refl;
         pids = pids-begun (s .pids) (s .addresses) (s .count) (f .few) (f .pids);
-        plain = plain-fresh (s .base) (s .mem);
+        plain = plain-fresh (good .lawful) (s .base) (s .mem);
         breakpoints = listed-fresh;
         draft = drafted-none none;
         stopped = halted-begun (s .pids) (s .addresses) (s .count) (f .few);
@@ -78,21 +79,21 @@ module _ (s : Setup) where
   agree-taken (taken e f z) good n = record { good = good; follows = follows-setup good }
   agree-taken (emptied n h) good z = absurd (eqb-false n 0 h z)
 
-  pub agree-setup : (head : Head) → setupBy s .number ≡ 0 → Agree head s (opened s) (setupBy s .after .target) (s .mem)
+  pub agree-setup : (head : Head) → Lawful head → setupBy s .number ≡ 0 → Agree head s (opened s) (setupBy s .after .target) (s .mem)
   unfolding setupBy
-  agree-setup head h =
+  agree-setup head law h =
       agree-taken (set-up (s .base) (s .size) (s .pids) (s .addresses) (s .count) (s .mem) (s .regs))
-      (good-setup head s h) h
+      (good-setup head law s h) h
 
 -- ---- every list
 
 -- an outside change under no trap
 pub agree-change : {head : Head} (s : Setup) (b : Book) (t : Target) (mem : List ℕ) (i byte : ℕ)
-    → Agree head s b t mem → underTrap s b i ≡ false
+    → Agree head s b t mem → underTrap head s b i ≡ false
     → Agree head s (withPlain b (set (b .plain) i byte)) t (set mem i byte)
 unfolding underTrap
-agree-change s b t mem i byte a e =
-    let bare : covered 2 (sites t) i ≡ false = same-covered s b t mem a i ∙ e in
+agree-change {head} s b t mem i byte a e =
+    let bare : covered (width head) (sites t) i ≡ false = same-covered s b t mem a i ∙ e in
     record { good = good-change t mem i byte (a .good) bare; follows = move-change s b t mem (a .follows) i byte bare }
 
 -- a Tmget of the window answers as the book says
@@ -103,7 +104,7 @@ right-read : {head : Head} (s : Setup) (b : Book) (t : Target) (mem : List ℕ) 
 unfolding RightStep ReadsRequest ReadsMessage
 right-read {head} s b t mem a regs bytes buffer addr n m i z =
     let o = stepOf head t mem (request regs bytes buffer) in
-    let given : ReadsRequest s b regs (parseOf bytes) (o .answer) (o .reply) =
+    let given : ReadsRequest head s b regs (parseOf bytes) (o .answer) (o .reply) =
     right-step s b t mem a (request regs bytes buffer) z in
     (rw m at given) i
 
@@ -111,11 +112,11 @@ right-read {head} s b t mem a regs bytes buffer addr n m i z =
 right-start : {head : Head} (s : Setup) (b : Book) (t : Target) (mem : List ℕ) → Agree head s b t mem
     → (regs bytes buffer : List ℕ) (pid : ℕ) → parseOf bytes ≡ Request (Tstart pid)
     → let o = stepOf head t mem (request regs bytes buffer) in
-    isAccepted (o .number) (o .reply) ≡ true → o .answer ≡ startBy s b regs pid
+    isAccepted (o .number) (o .reply) ≡ true → o .answer ≡ startBy head s b regs pid
 unfolding RightStep ReadsRequest ReadsMessage
 right-start {head} s b t mem a regs bytes buffer pid m z =
     let o = stepOf head t mem (request regs bytes buffer) in
-    let given : ReadsRequest s b regs (parseOf bytes) (o .answer) (o .reply) =
+    let given : ReadsRequest head s b regs (parseOf bytes) (o .answer) (o .reply) =
     right-step s b t mem a (request regs bytes buffer) z in
     rw m at given
 
@@ -151,15 +152,15 @@ claimed (change i byte ∷ es) s b t mem a =
     λ e. claimed es s (withPlain b (set (b .plain) i byte)) t (set mem i byte) (agree-change s b t mem i byte a e)
 
 -- "Over every list of steps after an accepted setup"
-pub demand3 : (head : Head) → Demand3 head (stubOf (stepOf head))
-demand3 head s h es = claimed es s (opened s) (setupBy s .after .target) (s .mem) (agree-setup s head h)
+pub demand3 : (head : Head) → Lawful head → Demand3 head (stubOf (stepOf head))
+demand3 head law s h es = claimed es s (opened s) (setupBy s .after .target) (s .mem) (agree-setup s head law h)
 
 -- ---- 02, Seven
 
 -- the places held are the history's, wherever the record agrees with the book and with the count
 held-all : {head : Head} (es : List Action) (s : Setup) (b : Book) (y : Count) (t : Target) (mem : List ℕ)
     → Agree head s b t mem → Counts (t .table) y
-    → HoldsCount s (stubOf (stepOf head)) ruledPlaces b y t mem es
+    → HoldsCount head s (stubOf (stepOf head)) ruledPlaces b y t mem es
 unfolding HoldsCount
 held-all [] s b y t mem a c = sym (c .held)
 held-all {head} (step e ∷ es) s b y t mem a c =
@@ -183,9 +184,9 @@ unfolding setupBy
 counts-setup s = counts-taken {s = s}
     (set-up (s .base) (s .size) (s .pids) (s .addresses) (s .count) (s .mem) (s .regs))
 
-pub places : (head : Head) → PlacesHeld (stubOf (stepOf head)) ruledPlaces
-places head s h es =
-    held-all es s (opened s) noneHeld (setupBy s .after .target) (s .mem) (agree-setup s head h) (counts-setup s)
+pub places : (head : Head) → Lawful head → PlacesHeld head (stubOf (stepOf head)) ruledPlaces
+places head law s h es =
+    held-all es s (opened s) noneHeld (setupBy s .after .target) (s .mem) (agree-setup s head law h) (counts-setup s)
 
 -- a fit record holds as many places as it has elements
 pub fit-places : (head : Head) (t : Target) (mem : List ℕ) → fitOf head t mem ≡ true → FitPlaces (t .table)
@@ -222,6 +223,7 @@ claims = record {
   workedSetup = setup-accepted;
   worked = worked;
   demand3 = demand3;
+  houseLawful = house-lawful;
   stubs = stubs;
   places = places;
   givenBack = given-back;

@@ -2,22 +2,22 @@
 -- each step's arguments .., number and answer, and each outside change; nothing from the record". Claim.antt says
 -- what is claimed by it.
 --
--- h is the head (Head.antt of memory): its trap, two bytes as they stand in memory, and the value of a word's bytes.
--- 01 has the house's: "in memory the bytes 02 90", and words "low-order first".
+-- h is the head (Head.antt of memory): its trap, as it stands in memory, and the value of a word's bytes. 01 has the
+-- house's: "in memory the bytes 02 90", and words "low-order first".
 use Prim.Native.Nat.{ℕ, _+_, _-_, _*_}
 use Prim.Native.Char.{code}
 use mathlib.Core.Bool.{Bool, true, false, cond, _&&_}
 use mathlib.Core.List.{List, [], _∷_, _++_, map}
 use mathlib.Core.Option.{Option, none, some}
 use lib.Dec.{leb, ltb, eqb}
-use lib.ListN.{length, getD, take}
+use lib.ListN.{length, take}
 use Rattle.common.specs.First.{firstOf}
 use Rattle.common.specs.Keys.{among}
 use Rattle.common.specs.Numbers.{accepted, wrongSize, unlistedPid, stoppedProcess, noSite}
 use Rattle.condition.specs.Evaluate.{evalFrom}
 use Rattle.condition.specs.declared.Fetched.{Fetched}
 use Rattle.condition.specs.declared.Fetched.the-variants.{Word, Outside}
-use Rattle.memory.specs.Head.{Head, trapBytes}
+use Rattle.memory.specs.Head.{Head, width}
 use Rattle.memory.specs.Overlay.{covered, laidOver}
 use Rattle.memory.specs.Place.{placeOf}
 use Rattle.memory.specs.Write.{bytesAt, overwritten}
@@ -26,7 +26,7 @@ use Rattle.memory.specs.declared.Place.the-variants.{Registers, Window, Nowhere
 use Rattle.request_parse.specs.Request.{parseOf}
 use Rattle.request_parse.specs.declared.Parsed.{Parsed}
 use Rattle.request_parse.specs.declared.Parsed.the-variants.{Request, Refused, NotTen}
-use Rattle.target.specs.Limits.{blockSize}
+use Rattle.target.specs.Limits.{blockSize, plainRoom}
 use Rattle.target.specs.declared.Element.{Element}
 use Rattle.wire.specs.Message.{bytes4, bytesOf}
 use Rattle.wire.specs.declared.Data4.{Data4}
@@ -36,6 +36,7 @@ use Rattle.wire.specs.declared.Message.the-variants.{Rerr, Rmget, Rmput, Rproc,
 use Rattle.wire.specs.declared.Message.the-variants.{Rcondbreak}
 use Rattle.rules.specs.declared.Answer.{Answer}
 use Rattle.rules.specs.declared.Answer.the-variants.{Nothing, Stop, Pass, Yes, No}
+use Rattle.rules.specs.Outcome.{passWith}
 use Rattle.rules.specs.Record.{pcOf, blockAt}
 use Rattle.rules.specs.Request.{data9Of}
 use Rattle.rules.specs.Step.{Setup, isAccepted, Step, request, trapEvent, scheduleEvent, stateEvent, restartStep}
@@ -156,7 +157,7 @@ bookRequest s b NotTen = b
 unfoldable pub bookAnswer : Book → ℕ → Answer → Book
 bookAnswer b pid Nothing = b
 bookAnswer b pid (Stop id) = withStopped b (pid ∷ b .stopped)
-bookAnswer b pid (Pass x y) = b
+bookAnswer b pid (Pass b0 b1 b2 b3) = b
 bookAnswer b pid Yes = withStopped b (pid ∷ b .stopped)
 bookAnswer b pid No = b
 
@@ -177,11 +178,11 @@ sitesBy s b = map (λ x. x .site - s .base) (b .breakpoints)
 
 -- "plain memory with the traps of the breakpoints in force laid over it, nothing else"
 unfoldable pub realBy : Head → Setup → Book → List ℕ
-realBy h s b = laidOver (trapBytes h) (sitesBy s b) (b .plain)
+realBy h s b = laidOver (h .trap) (sitesBy s b) (b .plain)
 
 -- "A byte is under a trap when a breakpoint in the book has its trap there"
-unfoldable pub underTrap : Setup → Book → ℕ → Bool
-underTrap s b i = covered 2 (sitesBy s b) i
+unfoldable pub underTrap : Head → Setup → Book → ℕ → Bool
+underTrap h s b i = covered (width h) (sitesBy s b) i
 
 -- ---- reads by the book: "a Tmget served from the window, the bytes of Pass, what * reads, and any answer of window
 -- bytes that a later change adds"
@@ -196,20 +197,20 @@ fetchBy h s b a =
     cond (leb (s .base) a && leb (a + 4) (s .base + s .size))
     (Word (h .word (bytesAt (b .plain) (a - s .base) 4 4))) Outside
 
--- Pass with plain memory's two bytes at a site
-unfoldable pub passBy : Setup → Book → ℕ → Answer
-passBy s b site = Pass (getD (b .plain) (site - s .base) 0) (getD (b .plain) (site - s .base + 1) 0)
+-- Pass with plain memory's bytes at a site, as many as the trap has
+unfoldable pub passBy : Head → Setup → Book → ℕ → Answer
+passBy h s b site = passWith (bytesAt (b .plain) (site - s .base) (width h) plainRoom)
 
 -- 02, Two: what a Tstart answers: of a process that was Stopped with the pc of its register block at a site, Pass
-unfoldable pub startBy : Setup → Book → List ℕ → ℕ → Answer
-startBy s b regs pid =
+unfoldable pub startBy : Head → Setup → Book → List ℕ → ℕ → Answer
+startBy h s b regs pid =
     let pc = pcOf (blockAt regs (firstOf (eqb pid) (take (s .count) (s .pids)))) in
-    cond (among (b .stopped) pid && among (map (λ x. x .site) (b .breakpoints)) pc) (passBy s b pc) Nothing
+    cond (among (b .stopped) pid && among (map (λ x. x .site) (b .breakpoints)) pc) (passBy h s b pc) Nothing
 
 -- "An accepted trap event answers by its rule over the book's breakpoints and plain memory"
 unfoldable pub answerOf : Head → Setup → Book → ℕ → Breakpoint → Answer
 answerOf h s b pid x =
-    cond (evalFrom (fetchBy h s b) pid (x .elements) (1 ∷ [])) (Stop (x .id)) (passBy s b (x .site))
+    cond (evalFrom (fetchBy h s b) pid (x .elements) (1 ∷ [])) (Stop (x .id)) (passBy h s b (x .site))
 
 unfoldable pub answerAmong : Head → Setup → Book → ℕ → ℕ → List Breakpoint → Answer
 answerAmong h s b pid pc [] = Nothing

@@ -83,7 +83,7 @@ Says trapPart h s b e r o =
 -- 02, Two: an accepted Tstart answers with plain memory's bytes where the process was Stopped at a breakpoint
 Says startPart h s b e r o =
     (regs bytes buffer : List ℕ) (pid : ℕ) → e ≡ request regs bytes buffer → parseOf bytes ≡ Request (Tstart pid)
-    → isAccepted (o .number) (o .reply) ≡ true → o .answer ≡ startBy s b regs pid
+    → isAccepted (o .number) (o .reply) ≡ true → o .answer ≡ startBy h s b regs pid
 -- "every trap's plain bytes go back": an accepted restart leaves plain memory
 Says restartPart h s b e r o = (regs buffer : List ℕ) → e ≡ restartStep regs buffer → o .number ≡ accepted
     → o .mem ≡ b .plain
@@ -115,7 +115,7 @@ Claim h s f b t x mem (step e ∷ es) =
     let (x′, o) = f .act x mem e in
     Right h s b e r o × Claim h s f (fed s b e (o .number) (o .answer) (o .reply)) (r .after .target) x′ (o .mem) es
 Claim h s f b t x mem (change i byte ∷ es) =
-    underTrap s b i ≡ false → Claim h s f (withPlain b (set (b .plain) i byte)) t x (set mem i byte) es
+    underTrap h s b i ≡ false → Claim h s f (withPlain b (set (b .plain) i byte)) t x (set mem i byte) es
 
 -- "Over every list of steps after an accepted setup", with this head, of this stub
 abbrev pub Demand3 : Head → Stub → Type 0

@@ -7,7 +7,7 @@ use Prim.Native.Nat.{ℕ, _<_, _≤_}
 use lib.Dec.{eqb}
 use lib.ListN.{length}
 use Rattle.common.specs.Numbers.{accepted, wrongSize, notFit}
-use Rattle.memory.specs.Head.{Head, house}
+use Rattle.memory.specs.Head.{Head, Lawful, house}
 use Rattle.request_parse.specs.Exact.{Exact}
 use Rattle.target.specs.Fresh.{emptyTarget}
 use Rattle.target.specs.View.{Table, Target}
@@ -144,13 +144,14 @@ pub record Claims : Type 0 where
   -- "Marked (*) to be proved of the definitions, as a single table under a single statement"
   pub workedSetup : setupBy workedSetup .number ≡ accepted
   pub worked : map (λ r. after (stepOf house) (r .calls)) workedRows ≡ map (λ r. r .shows) workedRows
-  -- demand 3, with every head, of the rules' steps
-  pub demand3 : (h : Head) → Demand3 h (rulesStub h)
+  -- demand 3, with every lawful head, of the rules' steps; the house's is one
+  pub demand3 : (h : Head) → Lawful h → Demand3 h (rulesStub h)
+  pub houseLawful : Lawful house
   -- and of no stub of the table: each row's part of the claim is false where the row says
   pub stubs : (r : Reason) → AllShut (stubRows r)
   -- 02, Seven: the places held, of the rules' steps
-  pub places : (h : Head) → PlacesHeld (rulesStub h) ruledPlaces
+  pub places : (h : Head) → Lawful h → PlacesHeld h (rulesStub h) ruledPlaces
   -- and of no stub that never gives a place back, or that counts a refused element
-  pub givenBack : PlacesHeld (countingStub neverGivesBack) ownPlaces → ⊥
-  pub refusedUncounted : PlacesHeld (countingStub countsRefused) ownPlaces → ⊥
+  pub givenBack : PlacesHeld house (countingStub neverGivesBack) ownPlaces → ⊥
+  pub refusedUncounted : PlacesHeld house (countingStub countsRefused) ownPlaces → ⊥
   pub fitPlaces : (h : Head) (t : Target) (mem : List ℕ) → fitOf h t mem ≡ true → FitPlaces (t .table)

@@ -10,7 +10,7 @@ use Rattle.condition.specs.Add.{roomFor, withElement}
 use Rattle.condition.specs.declared.Room.{Room}
 use Rattle.condition.specs.declared.Room.the-variants.{Fits, Full, Short}
 use Rattle.target_fit.specs.Fit.{entryOf, heldOf}
-use Rattle.memory.specs.Head.{Head}
+use Rattle.memory.specs.Head.{Head, width}
 use Rattle.memory.specs.Place.{isSite}
 use Rattle.target.specs.Limits.{maxId}
 use Rattle.target.specs.Free.{firstFree}
@@ -61,31 +61,31 @@ addElement w e =
     let u = w .target .table in
     cond (inHand w) (joined w e (roomFor (u .draft .elements) (heldOf u) e)) (failed Inval w)
 
--- an even address with both bytes in the window, where no breakpoint is
-unfoldable pub siteFree : World → ℕ → Bool
-siteFree w val =
+-- an address where a trap can stand and no breakpoint is
+unfoldable pub siteFree : Head → World → ℕ → Bool
+siteFree h w val =
     let t = w .target in
     let es = t .table .entries in
-    isSite (t .base) (t .size) val && leb (length es) (breakpointAt es val)
+    isSite (width h) (t .base) (t .size) val && leb (length es) (breakpointAt es val)
 
 -- "b val: nothing in hand, odd or outside site, site taken, or depth not 1: inval"
 unfoldable pub setBreakpoint : Head → World → ℕ → Outcome
 setBreakpoint h w val =
     let d = w .target .table .draft in
-    let fits = inHand w && siteFree w val && wellFormed (d .elements) in
+    let fits = inHand w && siteFree h w val && wellFormed (d .elements) in
     cond fits (replied Rcondbreak (planted h w val)) (failed Inval w)
 
 -- "d val: the breakpoint is removed .. Unknown id: inval. The condition in hand stays in either case"
-unfoldable pub deleteBreakpoint : World → ℕ → Outcome
-deleteBreakpoint w val =
+unfoldable pub deleteBreakpoint : Head → World → ℕ → Outcome
+deleteBreakpoint h w val =
     let es = w .target .table .entries in
     let k = entryOf es val in
-    cond (leb val maxId && ltb k (length es)) (replied Rcondbreak (removed w k)) (error Inval w)
+    cond (leb val maxId && ltb k (length es)) (replied Rcondbreak (removed h w k)) (error Inval w)
 
 -- a Tcondbreak that is a message, by its letter
 unfoldable pub condbreak : Head → World → ℕ → ℕ → Outcome
 condbreak h w val op =
     cond (eqb op (code "n")) (beginCondition w val)
     (cond (eqb op (code "b")) (setBreakpoint h w val)
-    (cond (eqb op (code "d")) (deleteBreakpoint w val)
+    (cond (eqb op (code "d")) (deleteBreakpoint h w val)
     (addElement w (record { letter = op; value = val }))))

@@ -37,7 +37,7 @@ holds h w pid e =
 -- changes, answer Pass"
 unfoldable pub trapped : Head → World → ℕ → ℕ → List ℕ → Entry → Outcome
 trapped h w i pid block e =
-    cond (holds h w pid e) (answered (Stop (e .id)) (stopWith w i block)) (answered (passOf e) w)
+    cond (holds h w pid e) (answered (Stop (e .id)) (stopWith w i block)) (answered (passOf h e) w)
 
 -- numbers 5 and 6: "trap .. for a Stopped process"; "trap whose pc is at no site"
 unfoldable pub trap : Head → World → ℕ → List ℕ → Outcome
@@ -84,5 +84,5 @@ afterRestart t = record {
 }
 
 -- "every trap's plain bytes go back"
-unfoldable pub restart : World → Outcome
-restart w = replied (Rerr Reset) (world (afterRestart (w .target)) (plainMemory w) (w .regs))
+unfoldable pub restart : Head → World → Outcome
+restart h w = replied (Rerr Reset) (world (afterRestart (w .target)) (plainMemory h w) (w .regs))

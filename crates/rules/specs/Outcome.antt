@@ -3,11 +3,13 @@ use Prim.Native.Nat.{ℕ}
 use mathlib.Core.Bool.{cond}
 use mathlib.Core.List.{List, [], _∷_, _++_}
 use lib.Dec.{eqb}
+use lib.ListN.{getD, take}
 use Rattle.common.specs.Numbers.{accepted}
 use Rattle.wire.specs.declared.Message.{Message}
 use Rattle.wire.specs.declared.Message.the-variants.{Rerr}
 use Rattle.wire_text.specs.declared.Reason.{Reason}
 use Rattle.wire.specs.Message.{bytesOf}
+use Rattle.memory.specs.Head.{Head, width}
 use Rattle.target.specs.View.{Target}
 use Rattle.rules.specs.declared.Answer.{Answer}
 use Rattle.rules.specs.declared.Answer.the-variants.{Nothing, Stop, Pass, Yes, No}
@@ -51,13 +53,17 @@ replied m w = repliedWith Nothing m w
 unfoldable pub error : Reason → World → Outcome
 error r w = replied (Rerr r) w
 
+-- Pass with plain bytes: it has room for four, as an entry has; those that a head has no use for are zero
+abbrev pub passWith : List ℕ → Answer
+passWith l = Pass (getD l 0 0) (getD l 1 0) (getD l 2 0) (getD l 3 0)
+
 -- an answer's number and values, as 01 has the program write them: "01 id or 02 and two bytes for 2; 00 or 01 for 3"
-unfoldable pub answerBytes : Answer → List ℕ
-answerBytes Nothing = []
-answerBytes (Stop id) = 1 ∷ id ∷ []
-answerBytes (Pass x y) = 2 ∷ x ∷ y ∷ []
-answerBytes Yes = 1 ∷ []
-answerBytes No = 0 ∷ []
+unfoldable pub answerBytes : Head → Answer → List ℕ
+answerBytes h Nothing = []
+answerBytes h (Stop id) = 1 ∷ id ∷ []
+answerBytes h (Pass b0 b1 b2 b3) = 2 ∷ take (width h) (b0 ∷ b1 ∷ b2 ∷ b3 ∷ [])
+answerBytes h Yes = 1 ∷ []
+answerBytes h No = 0 ∷ []
 
 -- what the program writes of a step: "It writes the number, then ten bytes for 1 and 5; 01 id or 02 and two bytes for
 -- 2; 00 or 01 for 3. A step whose number is not 0 writes its number only"; 02, Two: "The program writes 02 and the two
@@ -65,5 +71,5 @@ answerBytes No = 0 ∷ []
 unfoldable pub shownWith : ℕ → List ℕ → List ℕ
 shownWith number bytes = number ∷ cond (eqb number 0) bytes []
 
-unfoldable pub shown : Outcome → List ℕ
-shown o = shownWith (o .number) (o .reply ++ answerBytes (o .answer))
+unfoldable pub shown : Head → Outcome → List ℕ
+shown h o = shownWith (o .number) (o .reply ++ answerBytes h (o .answer))

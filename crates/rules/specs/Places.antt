@@ -96,20 +96,20 @@ counted y (restartStep regs buffer) number reply = cond (eqb number accepted) no
 -- ---- the claim about a stub that says how many places it holds: at the end of the list it holds the count's. It is
 -- claimed of every list, so at every point of one.
 
-unfoldable pub HoldsCount : Setup → (f : Stub) → (f .Own → ℕ) → Book → Count → f .Own → List ℕ → List Action → Type 0
-HoldsCount s f places b y x mem [] = places x ≡ y .held
-HoldsCount s f places b y x mem (step e ∷ es) =
+unfoldable pub HoldsCount : Head → Setup → (f : Stub) → (f .Own → ℕ) → Book → Count → f .Own → List ℕ → List Action → Type 0
+HoldsCount h s f places b y x mem [] = places x ≡ y .held
+HoldsCount h s f places b y x mem (step e ∷ es) =
     let (x′, o) = f .act x mem e in
-    HoldsCount s f places (fed s b e (o .number) (o .answer) (o .reply)) (counted y e (o .number) (o .reply)) x′
+    HoldsCount h s f places (fed s b e (o .number) (o .answer) (o .reply)) (counted y e (o .number) (o .reply)) x′
     (o .mem)
     es
-HoldsCount s f places b y x mem (change i byte ∷ es) =
-    underTrap s b i ≡ false → HoldsCount s f places (withPlain b (set (b .plain) i byte)) y x (set mem i byte) es
+HoldsCount h s f places b y x mem (change i byte ∷ es) =
+    underTrap h s b i ≡ false → HoldsCount h s f places (withPlain b (set (b .plain) i byte)) y x (set mem i byte) es
 
-abbrev pub PlacesHeld : (f : Stub) → (f .Own → ℕ) → Type 0
-PlacesHeld f places =
+abbrev pub PlacesHeld : Head → (f : Stub) → (f .Own → ℕ) → Type 0
+PlacesHeld h f places =
     (s : Setup) → setupBy s .number ≡ accepted → (es : List Action)
-    → HoldsCount s f places (opened s) noneHeld (f .begin s) (s .mem) es
+    → HoldsCount h s f places (opened s) noneHeld (f .begin s) (s .mem) es
 
 -- how many places the rules' record holds
 abbrev pub ruledPlaces : Target → ℕ

@@ -7,7 +7,7 @@ use lib.Dec.{leb, ltb, eqb}
 use lib.ListN.{getD, take, drop}
 use Rattle.common.specs.Numbers.{wrongSize}
 use Rattle.common.specs.Same.{allZero}
-use Rattle.memory.specs.Head.{Head}
+use Rattle.memory.specs.Head.{Head, width}
 use Rattle.memory.specs.Place.{placeOf}
 use Rattle.memory.specs.Write.{bytesAt, plainRead, overwritten, memAfter, plainAfter}
 use Rattle.memory.specs.declared.Place.{Place}
@@ -15,7 +15,7 @@ use Rattle.memory.specs.declared.Place.the-variants.{Registers, Window, Nowhere
 use Rattle.target_fit.specs.Fit.{processAt}
 use Rattle.request_parse.specs.declared.Parsed.{Parsed}
 use Rattle.request_parse.specs.declared.Parsed.the-variants.{Request, Refused, NotTen}
-use Rattle.target.specs.Limits.{blockSize}
+use Rattle.target.specs.Limits.{blockSize, plainRoom}
 use Rattle.target.specs.View.{Entry, Target}
 use Rattle.target.specs.declared.Process.{Process}
 use Rattle.wire.specs.Message.{bytes4}
@@ -56,56 +56,56 @@ data9Of l = record {
   b8 = getD l 8 0;
 }
 
-unfoldable pub gotFrom : Place → World → ℕ → ℕ → Outcome
-gotFrom Registers w addr n = onBlock w (λ i. replied (Rmget (data9Of (bytesAt (w .regs) (blockSize * i + addr) n 9))) w)
-gotFrom Window w addr n =
+unfoldable pub gotFrom : Head → Place → World → ℕ → ℕ → Outcome
+gotFrom h Registers w addr n = onBlock w (λ i. replied (Rmget (data9Of (bytesAt (w .regs) (blockSize * i + addr) n 9))) w)
+gotFrom h Window w addr n =
     let t = w .target in
-    replied (Rmget (data9Of (plainRead 2 (sites t) (plains t) (w .mem) (addr - t .base) n 9))) w
-gotFrom Nowhere w addr n = error Inval w
+    replied (Rmget (data9Of (plainRead (width h) (sites t) (plains t) (w .mem) (addr - t .base) n 9))) w
+gotFrom h Nowhere w addr n = error Inval w
 
 -- "With n = 0 nothing else is looked at: served, nothing changed"
-unfoldable pub mget : World → ℕ → ℕ → Outcome
-mget w addr n =
+unfoldable pub mget : Head → World → ℕ → ℕ → Outcome
+mget h w addr n =
     let t = w .target in
-    cond (eqb n 0) (replied (Rmget (data9Of [])) w) (gotFrom (placeOf (t .base) (t .size) addr n) w addr n)
+    cond (eqb n 0) (replied (Rmget (data9Of [])) w) (gotFrom h (placeOf (t .base) (t .size) addr n) w addr n)
 
 -- ---- Tmput: "writes n bytes; a byte under a trap goes to the entry's plain bytes and the trap stays"
 
--- entries with their plain bytes taken from the slots' bytes, one slot after the other
+-- entries with the room for their plain bytes taken from the slots' bytes, one slot after the other
 unfoldable pub withPlains : List Entry → List ℕ → List Entry
 withPlains [] bytes = []
 withPlains (e ∷ es) bytes =
     record {
       used = e .used;
       id = e .id;
-      plain = take 2 bytes;
+      plain = take plainRoom bytes;
       site = e .site;
       count = e .count;
       elements =
           e .elements;
     }
-    ∷ withPlains es (drop 2 bytes)
+    ∷ withPlains es (drop plainRoom bytes)
 
 -- the window with bytes written at an address
-unfoldable pub windowWritten : World → ℕ → List ℕ → World
-windowWritten w addr bytes =
+unfoldable pub windowWritten : Head → World → ℕ → List ℕ → World
+windowWritten h w addr bytes =
     let t = w .target in
     let at = addr - t .base in
-    world (withEntries t (withPlains (t .table .entries) (plainAfter 2 (sites t) (plains t) at bytes)))
-    (memAfter 2 (sites t) (w .mem) at bytes) (w .regs)
+    world (withEntries t (withPlains (t .table .entries) (plainAfter (width h) (sites t) (plains t) at bytes)))
+    (memAfter (width h) (sites t) (w .mem) at bytes) (w .regs)
 
 -- "A write that touches 0 to 3 (register zero) is inval, before pid"
-unfoldable pub putTo : Place → World → ℕ → List ℕ → Outcome
-putTo Registers w addr bytes =
+unfoldable pub putTo : Head → Place → World → ℕ → List ℕ → Outcome
+putTo h Registers w addr bytes =
     cond (leb addr 3) (error Inval w)
     (onBlock w (λ i. replied Rmput (world (w .target) (w .mem) (overwritten (w .regs) (blockSize * i + addr) bytes))))
-putTo Window w addr bytes = replied Rmput (windowWritten w addr bytes)
-putTo Nowhere w addr bytes = error Inval w
+putTo h Window w addr bytes = replied Rmput (windowWritten h w addr bytes)
+putTo h Nowhere w addr bytes = error Inval w
 
-unfoldable pub mput : World → ℕ → ℕ → Data4 → Outcome
-mput w addr n d =
+unfoldable pub mput : Head → World → ℕ → ℕ → Data4 → Outcome
+mput h w addr n d =
     let t = w .target in
-    cond (eqb n 0) (replied Rmput w) (putTo (placeOf (t .base) (t .size) addr n) w addr (take n (bytes4 d)))
+    cond (eqb n 0) (replied Rmput w) (putTo h (placeOf (t .base) (t .size) addr n) w addr (take n (bytes4 d)))
 
 -- ---- "An unlisted pid in these five: pid"
 
@@ -136,25 +136,25 @@ stop w pid =
 
 -- "clears the mark; a Stopped process becomes Ready". 02, Two: "Now Tstart removes no breakpoint. If the process was
 -- Stopped with its saved pc at a site, the kernel's answer carries the reply and the two plain bytes, as Pass does"
-unfoldable pub start : World → ℕ → Outcome
-start w pid =
+unfoldable pub start : Head → World → ℕ → Outcome
+start h w pid =
     onProcess w pid
     (λ i p.
     cond (isStopped p)
-    (repliedWith (passAt (w .target .table .entries) (pcOf (blockAt (w .regs) i))) Rstart
+    (repliedWith (passAt h (w .target .table .entries) (pcOf (blockAt (w .regs) i))) Rstart
     (withTarget w (setState (w .target) i ready 0)))
     (replied Rstart (withTarget w (setState (w .target) i (p .state) 0))))
 
 -- ---- a request that is a message
 
 unfoldable pub serve : Head → World → Message → Outcome
-serve h w (Tmget addr n) = mget w addr n
-serve h w (Tmput addr n d) = mput w addr n d
+serve h w (Tmget addr n) = mget h w addr n
+serve h w (Tmput addr n d) = mput h w addr n d
 serve h w (Tproc pid) = proc w pid
 serve h w (Tstatus pid) = status w pid
 serve h w (Trnote pid) = rnote w pid
 serve h w (Tstop pid) = stop w pid
-serve h w (Tstart pid) = start w pid
+serve h w (Tstart pid) = start h w pid
 serve h w (Tcondbreak val op) = condbreak h w val op
 serve h w (Rerr r) = error Inval w
 serve h w (Rmget d) = error Inval w

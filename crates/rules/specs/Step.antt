@@ -88,7 +88,7 @@ unfoldable pub stateOf : Head → World → ℕ → ℕ → Outcome
 stateOf h w pid value = checked h w true [] (state w pid value)
 
 unfoldable pub restartOf : Head → World → List ℕ → Outcome
-restartOf h w reply = checked h w (eqb (length reply) 10) reply (restart w)
+restartOf h w reply = checked h w (eqb (length reply) 10) reply (restart h w)
 
 -- ---- a step with everything that is lent to it but the memory
 

@@ -11,10 +11,11 @@ use lib.ListN.{length, getD, replicate}
 use Rattle.common.specs.Bytes.{highFirst}
 use Rattle.common.specs.First.{firstOf}
 use Rattle.common.specs.Numbers.{accepted, notFit, noSite}
-use Rattle.memory.specs.Head.{house, trapBytes}
+use Rattle.memory.specs.Head.{house}
 use Rattle.memory.specs.Overlay.{laidOver}
 use Rattle.target.specs.Free.{isFree}
-use Rattle.target.specs.Limits.{blockSize, maxPlain, pcOffset}
+use Rattle.target.specs.Limits.{blockSize, maxEntries, plainRoom, maxPlain, pcOffset}
+use Rattle.common.specs.Tab.{tab}
 use Rattle.target.specs.View.{Target}
 use Rattle.wire_text.specs.declared.Reason.{Reason}
 use Rattle.rules.specs.declared.Answer.the-variants.{Nothing, Pass, Yes, No}
@@ -55,7 +56,7 @@ rerrAlways r = changing 1 (λ t mem e o. error r (world t mem (o .after .regs)))
 -- "one answering zeros always"
 unfoldable pub zerosAlways : Acts
 zerosAlways t mem (request regs bytes reply) = outcome accepted Nothing (world t mem regs) (replicate 10 0)
-zerosAlways t mem (trapEvent regs pid block) = answered (Pass 0 0) (world t mem regs)
+zerosAlways t mem (trapEvent regs pid block) = answered (Pass 0 0 0 0) (world t mem regs)
 zerosAlways t mem (scheduleEvent regs pid block) = answered No (world t mem regs)
 zerosAlways t mem (stateEvent regs pid value) = answered Nothing (world t mem regs)
 zerosAlways t mem (restartStep regs reply) = outcome accepted Nothing (world t mem regs) (replicate 10 0)
@@ -89,21 +90,21 @@ plantsFirstOnly t =
 -- be with the traps
 unfoldable pub plantsNothing : Acts
 plantsNothing t mem e =
-    let o = stepOf house t (laidOver (trapBytes house) (sites t) mem) e in
-    outcome (o .number) (o .answer) (world (o .after .target) (plainMemory (o .after)) (o .after .regs)) (o .reply)
+    let o = stepOf house t (laidOver (house .trap) (sites t) mem) e in
+    outcome (o .number) (o .answer) (world (o .after .target) (plainMemory house (o .after)) (o .after .regs)) (o .reply)
 
 -- ---- for each other part of the claim, one that breaks it
 
 -- reads real memory: in a step of that kind the trap's bytes are taken for the plain ones
 unfoldable pub readsReal : ℕ → Acts
 readsReal k = changing k (λ t mem e o.
-    let trapsOnly = laidOver (trapBytes house) (0 ∷ 2 ∷ 4 ∷ 6 ∷ 8 ∷ 10 ∷ 12 ∷ 14 ∷ []) (replicate maxPlain 0) in
+    let trapsOnly = laidOver (house .trap) (tab maxEntries (λ k. k * plainRoom)) (replicate maxPlain 0) in
     let v = stepOf house (withEntries t (withPlains (t .table .entries) trapsOnly)) mem e in
     outcome (v .number) (v .answer) (o .after) (v .reply))
 
 -- removes the breakpoint at a continue, as before 02, Two: the first one of the table
 unfoldable pub removesAtStart : Acts
-removesAtStart = requestLeaving (λ bytes reply. eqb (getD reply 0 0) 0x0f) (λ w. removed w 0)
+removesAtStart = requestLeaving (λ bytes reply. eqb (getD reply 0 0) 0x0f) (λ w. removed house w 0)
 
 -- answers nothing beside a reply
 unfoldable pub answersNothing : Acts

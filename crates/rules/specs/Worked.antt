@@ -5,6 +5,7 @@ use Prim.Native.Nat.{ℕ, _*_}
 use lib.ListN.{take, drop, replicate}
 use Rattle.common.specs.Bytes.{highFirst}
 use Rattle.common.specs.Tab.{tab}
+use Rattle.memory.specs.Head.{house}
 use Rattle.target.specs.Limits.{blockSize, pcOffset}
 use Rattle.target.specs.View.{Target}
 use Rattle.rules.specs.Outcome.{World, Outcome, shown}
@@ -22,7 +23,7 @@ unfoldable pub shownBy : (Target → List ℕ → Step → Outcome) → World �
 shownBy f w [] = []
 shownBy f w (step s ∷ cs) =
     let o = f (w .target) (w .mem) (s (w .regs)) in
-    shown o ∷ shownBy f (o .after) cs
+    shown house o ∷ shownBy f (o .after) cs
 shownBy f w (look offset n ∷ cs) = take n (drop offset (w .mem)) ∷ shownBy f w cs
 
 -- ---- the worked setup: "B = 4,096, M = 64, byte at B + i is i", two processes, "a register area of zeros"

@@ -4,7 +4,7 @@
 pub enum Answer {
     Nothing,
     Stop(u8),
-    Pass(u8, u8),
+    Pass(u8, u8, u8, u8),
     Yes,
     No,
 }

@@ -95,7 +95,7 @@ module _ (kind : StepKind) (w : World) (pid value : ℕ) (input reply : List ℕ
   bodyOf step.Trap = leaving reply (trap house w pid input)
   bodyOf step.Schedule = leaving reply (schedule w pid input)
   bodyOf step.State = leaving reply (state w pid value)
-  bodyOf step.Restart = restart w
+  bodyOf step.Restart = restart house w
 
   -- the tests come first, whatever the kind
   tested-at : (k : StepKind) → checked house w (lentRight k (length input) (length reply)) reply (bodyOf k)
@@ -150,13 +150,13 @@ leaves t d words mem regs reply o e = ap (leaving reply) e
 module _ (t : Target) (words old regs : List ℕ) (s : Scan) (ok : Arrays (viewOf t words) s) (d : Effect) where
   pub restart-as : (plain mem reply : List ℕ) → d ≡ effectOf 0 Nothing Restart plain (bytesOf (Rerr Reset))
       → mem ≡ plainOf 2 (s .sites) (s .plain) old → reply ≡ bytesOf (Rerr Reset)
-      → effectOutcome t d words mem regs reply ≡ restart (world (viewOf t words) old regs)
+      → effectOutcome t d words mem regs reply ≡ restart house (world (viewOf t words) old regs)
   unfolding restart repliedWith stored
   restart-as plain mem reply q m r = rw (q, view-new (elementsOf words), m, ok .sites, ok .plain, r)
 
   -- it has number 0
   pub restart-number : (mem reply : List ℕ)
-      → effectOutcome t d words mem regs reply ≡ restart (world (viewOf t words) old regs) → d .number ≡ 0
+      → effectOutcome t d words mem regs reply ≡ restart house (world (viewOf t words) old regs) → d .number ≡ 0
   unfolding restart repliedWith
   restart-number mem reply e = ap (λ (x : Outcome). x .number) e
 

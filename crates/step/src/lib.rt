@@ -99,7 +99,7 @@ fn restart(s: Scan, mem: &mut [u8], reply: &mut [u8]) -> Effect
     requires { ⌜ length (now reply) ≡ 10 ⌝ }
     ensures { λ r. ⌜ ((t : Target) (words regs : List ℕ) → Arrays (viewOf t words) s
         → effectOutcome t r words (now (mem .exit)) regs (now (reply .exit))
-        ≡ restartRule (world (viewOf t words) (now (mem .entry)) regs)) ⌝ }
+        ≡ restartRule house (world (viewOf t words) (now (mem .entry)) regs)) ⌝ }
 {
     let sites = s.sites;
     let plain = s.plain;

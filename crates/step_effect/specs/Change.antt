@@ -2,7 +2,8 @@
 use Prim.Native.Nat.{ℕ}
 use mathlib.Core.Bool.{Bool, true, false}
 use mathlib.Core.List.{List, [], _∷_, _++_, map}
-use lib.ListN.{getD, take, drop, set, replicate}
+use lib.ListN.{take, drop, set, replicate}
+use Rattle.target.specs.Limits.{plainRoom}
 use Rattle.target.specs.Fresh.{freeEntry, noDraft, newTable}
 use Rattle.target.specs.declared.Draft.{Draft}
 use Rattle.target.specs.declared.Entry.{Entry}
@@ -41,7 +42,7 @@ withTable t es d = record {
   table = record { entries = es; draft = d };
 }
 
--- entries with the first two of their plain bytes taken from the slots' bytes
+-- entries with the room for their plain bytes taken from the slots' bytes
 unfoldable pub storePlains : List Entry → List ℕ → List Entry
 storePlains [] bytes = []
 storePlains (e ∷ es) bytes =
@@ -49,10 +50,10 @@ storePlains (e ∷ es) bytes =
       used = e .used;
       id = e .id;
       count = e .count;
-      plain = getD bytes 0 0 ∷ getD bytes 1 0 ∷ drop 2 (e .plain);
+      plain = take plainRoom bytes;
       site = e .site;
     }
-    ∷ storePlains es (drop 2 bytes)
+    ∷ storePlains es (drop plainRoom bytes)
 
 -- the entry of a new breakpoint
 abbrev pub madeOf : Draft → ℕ → ℕ → ℕ → Entry

@@ -2,7 +2,7 @@
 -- see them, and as the code stores them.
 use mathlib.Core.List.{[]}
 use lib.ListN.{replicate}
-use Rattle.target.specs.Limits.{maxEntries, maxProcesses}
+use Rattle.target.specs.Limits.{maxEntries, plainRoom, maxProcesses}
 use Rattle.target.specs.declared.Element.{Element}
 use Rattle.target.specs.declared.Process.{Process}
 use Rattle.target.specs.declared.Entry.{Entry as StoredEntry}
@@ -26,7 +26,7 @@ noProcess = record { pid = 0; address = 0; state = 0; wanted = 0 }
 -- ---- as the rules see them
 
 abbrev pub freshEntry : Entry
-freshEntry = record { used = 0; id = 0; plain = replicate 2 0; site = 0; count = 0; elements = [] }
+freshEntry = record { used = 0; id = 0; plain = replicate plainRoom 0; site = 0; count = 0; elements = [] }
 
 -- nothing in hand
 abbrev pub closedDraft : Draft
@@ -51,7 +51,7 @@ emptyTarget = record {
 -- ---- as the code stores them
 
 abbrev pub freeEntry : StoredEntry
-freeEntry = record { used = 0; id = 0; count = 0; plain = replicate 4 0; site = 0 }
+freeEntry = record { used = 0; id = 0; count = 0; plain = replicate plainRoom 0; site = 0 }
 
 abbrev pub noDraft : StoredDraft
 noDraft = record { active = 0; id = 0; count = 0 }

@@ -5,9 +5,14 @@ use Prim.Native.Nat.{ℕ, _*_}
 abbrev pub maxEntries : ℕ
 maxEntries = 8
 
--- "the two plain bytes of the site", of all entries
+-- an entry's room for the plain bytes of its site, whatever the length of a head's trap: 01 has "the two plain bytes",
+-- 02, Ten, "plain bytes are four"
+abbrev pub plainRoom : ℕ
+plainRoom = 4
+
+-- of all entries
 abbrev pub maxPlain : ℕ
-maxPlain = 2 * maxEntries
+maxPlain = plainRoom * maxEntries
 
 -- "an id (0 to 255)"
 abbrev pub maxId : ℕ

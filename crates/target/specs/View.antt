@@ -18,8 +18,8 @@ use Rattle.target.specs.declared.Target.{Target as StoredTarget}
 
 -- ---- the record of the rules
 
--- "An entry holds an id (0 to 255), a site, the two plain bytes of the site" and its condition; count is how many
--- elements it is to have
+-- "An entry holds an id (0 to 255), a site, the two plain bytes of the site" and its condition; plain is the room for
+-- these bytes, of which the first are they; count is how many elements it is to have
 pub record Entry : Type 0 where
   pub used : ℕ
   pub id : ℕ
@@ -83,7 +83,7 @@ abbrev pub viewEntry : StoredEntry → List Element → Entry
 viewEntry e elements = record {
   used = e .used;
   id = e .id;
-  plain = take 2 (e .plain);
+  plain = e .plain;
   site = e .site;
   count = e .count;
   elements = elements;

@@ -22,7 +22,7 @@ pub struct Entry {
     pub used: u8,
     pub id: u8,
     pub count: u8,
-    pub plain: [u8; 4],
+    pub plain: [u8; Entry::ROOM],
     pub site: u32,
 }
 
@@ -72,6 +72,8 @@ impl Process {
 }
 
 impl Entry {
+    // The room for the plain bytes of a site.
+    pub const ROOM: usize = 4;
     // The most elements of a condition.
     pub const ELEMENTS: usize = 64;
 
@@ -84,7 +86,7 @@ impl Entry {
             used: 0,
             id: 0,
             count: 0,
-            plain: [0; 4],
+            plain: [0; Entry::ROOM],
             site: 0,
         }
     }
@@ -104,8 +106,8 @@ impl Draft {
 
 impl Table {
     pub const ENTRIES: usize = 8;
-    // The plain bytes of all entries, two for each.
-    pub const PLAIN: usize = 16;
+    // The room for plain bytes of all entries.
+    pub const PLAIN: usize = 32;
     // The places of the pool, and its words: place i is words 2i (the letter) and 2i + 1 (the value).
     pub const PLACES: usize = 128;
 

@@ -5,71 +5,53 @@ use Prim.Native.Nat.{ℕ, zero, suc, _+_, _*_, _<_, _≤_}
 use native.Mathlib.Nat.{add-zero, not-suc-le-zero, le-of-suc-le-suc}
 use native.Mathlib.Numerals.{add-one}
 use native.Mathlib.Omega.{arith}
-use denote.Array.{Array}
-use denote.Laws.{Is}
-use lib.ListN.{length, getD, set, take, drop}
-use lib.Seq.{getD-drop, take-all, take-suc, take-suc-set, drop-drop, drop-set-lt}
-use mir.Val.{Val}
+use lib.ListN.{length, getD, set, take, drop, length-drop}
+use lib.Seq.{getD-drop, take-all, take-suc, take-suc-set, drop-drop, drop-set-lt, length-take-le}
+use Rattle.common.specs.Tab.{tab}
+use Rattle.common.proofs.Lists.{part-at}
+use Rattle.common.proofs.Tab.{tab-is}
 use Rattle.step_effect.specs.Change.{storePlains}
+use Rattle.target.specs.Limits.{plainRoom}
 use Rattle.target.specs.Fresh.{pastEntries}
 use Rattle.target.specs.declared.Entry.{Entry}
-use Rattle.target.proofs.Entry as entry
-use Rattle.target.proofs.Shape.{each-at, entry-shape}
 
--- an entry with its first two plain bytes taken
-abbrev pub withPair : Entry → ℕ → ℕ → Entry
-withPair e a b = record {
-  used = e .used;
-  id = e .id;
-  count = e .count;
-  plain = a ∷ b ∷ drop 2 (e .plain);
-  site = e .site;
-}
+-- an entry with other plain bytes
+abbrev pub withPlain : Entry → List ℕ → Entry
+withPlain e p = record { used = e .used; id = e .id; count = e .count; plain = p; site = e .site }
+
+-- the bytes of slot k
+abbrev pub slotBytes : List ℕ → ℕ → List ℕ
+slotBytes bytes k = take plainRoom (drop (plainRoom * k) bytes)
 
 pub length-stored : (es : List Entry) (bytes : List ℕ) → length (storePlains es bytes) ≡ length es
 unfolding storePlains
 length-stored [] bytes = refl
-length-stored (e ∷ es) bytes = ap suc (length-stored es (drop 2 bytes))
+length-stored (e ∷ es) bytes = ap suc (length-stored es (drop plainRoom bytes))
 
 pub stored-at : (es : List Entry) (bytes : List ℕ) (k : ℕ) → k < length es
-    → getD (storePlains es bytes) k pastEntries
-    ≡ withPair (getD es k pastEntries) (getD bytes (2 * k) 0) (getD bytes (2 * k + 1) 0)
+    → getD (storePlains es bytes) k pastEntries ≡ withPlain (getD es k pastEntries) (slotBytes bytes k)
 unfolding storePlains
 stored-at [] bytes k h = absurd (not-suc-le-zero h)
 stored-at (e ∷ es) bytes zero h = refl
 stored-at (e ∷ es) bytes (suc k) h =
-    let p : 2 + 2 * k ≡ 2 * suc k = omega arith in
-    let q : 2 + (2 * k + 1) ≡ 2 * suc k + 1 = omega arith in
-    stored-at es (drop 2 bytes) k (le-of-suc-le-suc h)
-    ∙ rw (getD-drop 2 bytes (2 * k) 0, getD-drop 2 bytes (2 * k + 1) 0, p, q)
+    let p : plainRoom + plainRoom * k ≡ plainRoom * suc k = omega arith in
+    stored-at es (drop plainRoom bytes) k (le-of-suc-le-suc h)
+    ∙ rw (drop-drop (plainRoom * k) plainRoom bytes, ← p)
 
--- the plain bytes of an entry of an array
-pub entry-plain : (n : ℕ) (es : List Entry) (vs : List Val) (k : ℕ) → Is (Array entry.the-row n) es vs → k < length es
-    → length (getD es k pastEntries .plain) ≡ 4
-entry-plain n es vs k g h =
-    entry-shape (getD es k pastEntries) _
-    (each-at Entry (entry.the-row .own) es (g .0) k pastEntries (g .1 .1) h .1) .plain
+-- they are four
+pub four-bytes : (bytes : List ℕ) (k : ℕ) → plainRoom * k + 4 ≤ length bytes
+    → getD bytes (4 * k) 0 ∷ getD bytes (4 * k + 1) 0 ∷ getD bytes (4 * k + 2) 0 ∷ getD bytes (4 * k + 3) 0 ∷ []
+    ≡ slotBytes bytes k
+unfolding tab
+four-bytes bytes k h =
+    let e = tab-is (slotBytes bytes k) plainRoom _ 0
+    (length-take-le plainRoom (drop (plainRoom * k) bytes) (simp length-drop (omega arith)))
+    (λ j g. part-at bytes (plainRoom * k) plainRoom j 0 g) in
+    sym (rw add-zero at e)
 
--- two stores fill the first two
-pair : (p : List ℕ) (a b : ℕ) → length p ≡ 4 → set (set p 0 a) 1 b ≡ a ∷ b ∷ drop 2 p
-pair [] a b h = absurd (omega arith)
-pair (x ∷ []) a b h = absurd (omega arith)
-pair (x ∷ y ∷ p) a b h = refl
-
--- the entry at place k takes a pair of bytes
-abbrev pub Taken : List Entry → ℕ → ℕ → ℕ → List Entry → Type 0
-Taken us k a b vs = vs ≡ set us k (withPair (getD us k pastEntries) a b)
-
-pub put-in : (us : List Entry) (k a b : ℕ) (vs : List Entry) → length (getD us k pastEntries .plain) ≡ 4
-    → vs ≡ set us k (record {
-      used = getD us k pastEntries .used;
-      id = getD us k pastEntries .id;
-      count = getD us k pastEntries .count;
-      plain = set (set (getD us k pastEntries .plain) 0 a) 1 b;
-      site = getD us k pastEntries .site;
-    })
-    → Taken us k a b vs
-put-in us k a b vs four e = e ∙ rw (pair (getD us k pastEntries .plain) a b four)
+-- the entry at place k takes the bytes of its slot
+abbrev pub Taken : List Entry → List ℕ → ℕ → List Entry → Type 0
+Taken us bytes k vs = vs ≡ set us k (withPlain (getD us k pastEntries) (slotBytes bytes k))
 
 -- a loop over the entries: those before k are taken, those from k on as they were
 module _ (es us : List Entry) (bytes : List ℕ) (k : ℕ) (z : length us ≡ length es) where
@@ -80,7 +62,7 @@ module _ (es us : List Entry) (bytes : List ℕ) (k : ℕ) (z : length us ≡ le
         ∙ getD-drop k es 0 pastEntries in
         rw add-zero at e
 
-    module _ (vs : List Entry) (w : Taken us k (getD bytes (2 * k) 0) (getD bytes (2 * k + 1) 0) vs) where
+    module _ (vs : List Entry) (w : Taken us bytes k vs) where
       pub plains-more : take k us ≡ take k (storePlains es bytes)
           → take (k + 1) vs ≡ take (k + 1) (storePlains es bytes)
       plains-more t =
@@ -95,11 +77,8 @@ module _ (es us : List Entry) (bytes : List ℕ) (k : ℕ) (z : length us ≡ le
                 (storePlains es bytes) k pastEntries j,
           )
         where
-          new : withPair (getD us k pastEntries) (getD bytes (2 * k) 0) (getD bytes (2 * k + 1) 0)
-              ≡ getD (storePlains es bytes) k pastEntries
-          new =
-              ap (λ (x : Entry). withPair x (getD bytes (2 * k) 0) (getD bytes (2 * k + 1) 0)) still
-              ∙ sym (stored-at es bytes k h)
+          new : withPlain (getD us k pastEntries) (slotBytes bytes k) ≡ getD (storePlains es bytes) k pastEntries
+          new = ap (λ (x : Entry). withPlain x (slotBytes bytes k)) still ∙ sym (stored-at es bytes k h)
 
       pub plains-rest : drop (k + 1) vs ≡ drop (k + 1) es
       plains-rest =

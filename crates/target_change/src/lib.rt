@@ -122,9 +122,10 @@ fn with_plains(es: [Entry; Table::ENTRIES], plain: [u8; Table::PLAIN]) -> [Entry
     let mut fs = es;
     let mut k: usize = 0;
     while k < Table::ENTRIES {
+        let at = Entry::ROOM * k;
+        let bytes = [plain[at], plain[at + 1], plain[at + 2], plain[at + 3]];
         let mut e = fs[k];
-        e.plain[0] = plain[2 * k];
-        e.plain[1] = plain[2 * k + 1];
+        e.plain = bytes;
         fs[k] = e;
         k += 1;
     }

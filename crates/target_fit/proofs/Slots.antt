@@ -8,7 +8,7 @@ use native.Mathlib.Omega.{arith}
 use borrow.Author.Tests.{ne-eqb}
 use lib.Dec.{eqb}
 use lib.ListN.{length, getD, length-append, List·getD-append}
-use lib.Seq.{getD-append-add, length-take-le}
+use lib.Seq.{getD-append-add}
 use mir.Val.{Val}
 use denote.Laws.{Is}
 use Rattle.common.specs.First.{firstOf}
@@ -16,6 +16,7 @@ use Rattle.common.specs.Tab.{tab}
 use Rattle.common.proofs.Cases.{on-test}
 use Rattle.common.proofs.First.{first-map}
 use Rattle.common.proofs.Tab.{tab-is, tab-map}
+use Rattle.target.specs.Limits.{maxEntries, plainRoom, maxPlain}
 use Rattle.target.specs.Free.{isFree, firstFree}
 use Rattle.target.specs.Fresh.{noEntry, pastEntries}
 use Rattle.target.specs.View.{Entry, viewEntries}
@@ -38,51 +39,52 @@ pub sites-tab : (base : ℕ) (es : List Entry) (n : ℕ) → length es ≡ n
 unfolding sitesOf
 sites-tab base es n z = tab-map (siteOf base) es noEntry n z
 
--- ---- the plain bytes, where every entry has two
+-- ---- the plain bytes, where every entry has its room for them
 
-abbrev pub TwoEach : List Entry → Type 0
-TwoEach es = (k : ℕ) → k < length es → length (entryAt es k .plain) ≡ 2
+abbrev pub Roomy : List Entry → Type 0
+Roomy es = (k : ℕ) → k < length es → length (entryAt es k .plain) ≡ plainRoom
 
-pub length-plains : (es : List Entry) → TwoEach es → length (plainsOf es) ≡ length es * 2
+pub length-plains : (es : List Entry) → Roomy es → length (plainsOf es) ≡ length es * plainRoom
 unfolding plainsOf
-length-plains [] two = refl
-length-plains (e ∷ es) two =
+length-plains [] room = refl
+length-plains (e ∷ es) room =
     omega (
       arith,
       length-append (e .plain) (plainsOf es),
-      two 0 (omega arith),
-      length-plains es (λ k h. two (suc k) (omega arith)),
+      room 0 (omega arith),
+      length-plains es (λ k h. room (suc k) (omega arith)),
     )
 
-pub sixteen-plains : (es : List Entry) → length es ≡ 8 → TwoEach es → length (plainsOf es) ≡ 16
-sixteen-plains es z two = omega (arith, length-plains es two)
+pub all-plains : (es : List Entry) → length es ≡ maxEntries → Roomy es → length (plainsOf es) ≡ maxPlain
+all-plains es z room = omega (arith, length-plains es room)
 
 -- byte r of slot k
-pub plain-byte : (es : List Entry) → TwoEach es → (k r : ℕ) → k < length es → r < 2
-    → getD (plainsOf es) (k * 2 + r) 0 ≡ getD (entryAt es k .plain) r 0
+pub plain-byte : (es : List Entry) → Roomy es → (k r : ℕ) → k < length es → r < plainRoom
+    → getD (plainsOf es) (k * plainRoom + r) 0 ≡ getD (entryAt es k .plain) r 0
 unfolding plainsOf
-plain-byte [] two k r h g = absurd (not-suc-le-zero h)
-plain-byte (e ∷ es) two zero r h g =
-    let z : length (e .plain) ≡ 2 = two 0 (omega arith) in
-    let p : 0 * 2 + r ≡ r = omega arith in
+plain-byte [] room k r h g = absurd (not-suc-le-zero h)
+plain-byte (e ∷ es) room zero r h g =
+    let z : length (e .plain) ≡ plainRoom = room 0 (omega arith) in
+    let p : 0 * plainRoom + r ≡ r = omega arith in
     ap (λ (n : ℕ). getD (e .plain ++ plainsOf es) n 0) p ∙ List·getD-append (e .plain) (plainsOf es) 0 r (omega arith)
-plain-byte (e ∷ es) two (suc k) r h g =
-    let z : length (e .plain) ≡ 2 = two 0 (omega arith) in
-    let p : suc k * 2 + r ≡ length (e .plain) + (k * 2 + r) = omega arith in
+plain-byte (e ∷ es) room (suc k) r h g =
+    let z : length (e .plain) ≡ plainRoom = room 0 (omega arith) in
+    let p : suc k * plainRoom + r ≡ length (e .plain) + (k * plainRoom + r) = omega arith in
     ap (λ (n : ℕ). getD (e .plain ++ plainsOf es) n 0) p
-    ∙ getD-append-add (e .plain) (plainsOf es) (k * 2 + r) 0
-    ∙ plain-byte es (λ j l. two (suc j) (omega arith)) k r (le-of-suc-le-suc h) g
+    ∙ getD-append-add (e .plain) (plainsOf es) (k * plainRoom + r) 0
+    ∙ plain-byte es (λ j l. room (suc j) (omega arith)) k r (le-of-suc-le-suc h) g
 
--- plain byte j of a table
+-- byte j of the slots' bytes
 abbrev pub plainByte : List Entry → ℕ → ℕ
-plainByte es j = getD (entryAt es (j / 2) .plain) (j % 2) 0
+plainByte es j = getD (entryAt es (j / plainRoom) .plain) (j % plainRoom) 0
 
-pub plains-tab : (es : List Entry) → length es ≡ 8 → TwoEach es → plainsOf es ≡ tab 16 (plainByte es)
-plains-tab es z two =
-    tab-is (plainsOf es) 16 _ 0 (sixteen-plains es z two)
+pub plains-tab : (es : List Entry) → length es ≡ maxEntries → Roomy es → plainsOf es ≡ tab maxPlain (plainByte es)
+plains-tab es z room =
+    tab-is (plainsOf es) maxPlain _ 0 (all-plains es z room)
     (λ j h.
-    let p : j ≡ j / 2 * 2 + j % 2 = omega arith in
-    ap (λ (n : ℕ). getD (plainsOf es) n 0) p ∙ plain-byte es two (j / 2) (j % 2) (omega arith) (omega arith))
+    let p : j ≡ j / plainRoom * plainRoom + j % plainRoom = omega arith in
+    ap (λ (n : ℕ). getD (plainsOf es) n 0) p
+    ∙ plain-byte es room (j / plainRoom) (j % plainRoom) (omega arith) (omega arith))
 
 -- ---- the first free entry, by the ids
 
@@ -120,8 +122,7 @@ module _ (t : Target) (vs : List Val) where
         let b : k < 8 = omega (arith, eight-entries h) in
         rw (view-at (t .table .entries) pool k (omega (arith, eight-stored h))) (shape-at k h b .id)
 
-    pub two-each : Is target.the-row t vs → TwoEach (viewEntries (t .table .entries) pool)
-    two-each h k l =
+    pub roomy : Is target.the-row t vs → Roomy (viewEntries (t .table .entries) pool)
+    roomy h k l =
         let b : k < 8 = omega (arith, eight-entries h) in
-        rw (view-at (t .table .entries) pool k (omega (arith, eight-stored h)))
-        (length-take-le 2 (getD (t .table .entries) k pastEntries .plain) (omega (arith, shape-at k h b .plain)))
+        rw (view-at (t .table .entries) pool k (omega (arith, eight-stored h))) (shape-at k h b .plain)

@@ -7,7 +7,7 @@ use lib.ListN.{length, getD, take, replicate}
 use Rattle.common.specs.Every.{every}
 use Rattle.common.specs.First.{firstOf}
 use Rattle.condition.specs.Depth.{depthOf, wellBegun, wellFormed}
-use Rattle.memory.specs.Head.{Head}
+use Rattle.memory.specs.Head.{Head, width}
 use Rattle.memory.specs.Overlay.{freeSite}
 use Rattle.memory.specs.Place.{isSite}
 pub use Rattle.target.specs.Limits.{stopped}
@@ -53,7 +53,8 @@ apart e f = isFree e || isFree f || (not (eqb (e .id) (f .id)) && not (eqb (e .s
 -- "each site is even, has both bytes in the window, and memory holds 02 90 there": the head's trap
 unfoldable pub siteFit : Head → ℕ → List ℕ → ℕ → Bool
 siteFit h base mem s =
-    isSite base (length mem) s && eqb (getD mem (s - base) 0) (h .first) && eqb (getD mem (s - base + 1) 0) (h .second)
+    isSite (width h) base (length mem) s
+    && every (width h) (λ j. eqb (getD mem (s - base + j) 0) (getD (h .trap) j 0))
 
 -- "each condition is well formed"; 02, Seven: "the places held are those of its elements"
 unfoldable pub entryFit : Head → ℕ → List ℕ → Entry → Bool

@@ -2,13 +2,12 @@
 use mathlib.Core.Path.{_≡_, refl, sym, ap, _∙_}
 use mathlib.Core.Bool.{Bool, true, false, not, _&&_, and-false, or-true}
 use mathlib.Core.List.{List}
-use Prim.Native.Nat.{ℕ, _+_, _-_, _*_, _/_, _%_, _<_, _≤_}
+use Prim.Native.Nat.{ℕ, zero, suc, _+_, _-_, _*_, _/_, _%_, _<_, _≤_}
 use native.Mathlib.Nat.{add-zero}
 use native.Mathlib.Omega.{arith}
 use borrow.Author.Tests.{not-true, not-false, eq-eqb, ne-eqb, eqb-true, le-leb, lt-leb, le-ltb}
 use lib.Dec.{eqb, leb}
 use lib.ListN.{length, getD, set, take, drop, replicate}
-use lib.Seq.{getD-take, length-take-le}
 use Rattle.common.specs.Every.{every}
 use Rattle.common.proofs.Every.{every-at, every-all, every-fails, every-more, every-done, every-ext}
 use Rattle.common.proofs.Cases.{on-test, on-less, same-eqb}
@@ -32,7 +31,7 @@ use Rattle.target_fit.specs.Arrays.{freeId, idOf, siteOf}
 use Rattle.target_fit.specs.Fit.{entryAt, apart, siteFit, entryFit, slotFit, entriesFit, unfitScan}
 use Rattle.target_fit.specs.declared.Scan.{Scan}
 use Rattle.target_fit.proofs.Laws.{answered-yes}
-use Rattle.target_fit.proofs.Slots.{ids-tab, sites-tab, TwoEach, plainByte, plains-tab}
+use Rattle.target_fit.proofs.Slots.{ids-tab, sites-tab, Roomy, plainByte, plains-tab}
 use Rattle.target_fit.proofs.View.{count-used, end-held}
 use Rattle.target_scan.specs.Parts.{usedTest, scanEntries}
 
@@ -161,12 +160,12 @@ pub record Scanning (base : ℕ) (mem : List ℕ) (es : List Stored) (pool : Lis
   pub room : held ≤ 128
   pub its-ids : ids ≡ filled (λ k. idOf (entryAt (viewEntries es pool) k)) (λ _. freeId) i 8
   pub its-sites : sites ≡ filled (λ k. siteOf base (entryAt (viewEntries es pool) k)) (λ _. freeSite) i 8
-  pub its-plain : plain ≡ filled (plainByte (viewEntries es pool)) (λ _. 0) (2 * i) 16
+  pub its-plain : plain ≡ filled (plainByte (viewEntries es pool)) (λ _. 0) (4 * i) 32
   pub fit : every i (slotFit house base mem (viewEntries es pool)) ≡ true
 
 pub scan-none : (base : ℕ) (mem : List ℕ) (es : List Stored) (pool : List Element) → base % 2 ≡ 0 → length es ≡ 8
     → ((k : ℕ) → k < 8 → EntryShape (getD es k pastEntries))
-    → Scanning base mem es pool (replicate 8 freeId) (replicate 8 freeSite) (replicate 16 0) 0 0
+    → Scanning base mem es pool (replicate 8 freeId) (replicate 8 freeSite) (replicate 32 0) 0 0
 unfolding every
 scan-none base mem es pool even size shape = record {
   within = omega arith;
@@ -177,7 +176,7 @@ scan-none base mem es pool even size shape = record {
   room = omega arith;
   its-ids = fill-none _ freeId 8;
   its-sites = fill-none _ freeSite 8;
-  its-plain = fill-none _ 0 16;
+  its-plain = fill-none _ 0 32;
   fit = refl;
 }
 
@@ -186,11 +185,10 @@ module _ {base : ℕ} {mem : List ℕ} {es : List Stored} {pool : List Element} 
   abbrev seen : List Entry
   seen = viewEntries es pool
 
-  two : TwoEach seen
-  two k g =
+  room-each : Roomy seen
+  room-each k g =
       let b : k < 8 = omega (arith, p .size, length-view es pool) in
-      rw (view-at es pool k (omega (arith, p .size)))
-      (length-take-le 2 (getD es k pastEntries .plain) (omega (arith, p .shape k b .plain)))
+      rw (view-at es pool k (omega (arith, p .size))) (p .shape k b .plain)
 
   -- every entry is passed: the arrays are the table's
   pub scan-all : 8 ≤ i
@@ -208,7 +206,7 @@ module _ {base : ℕ} {mem : List ℕ} {es : List Stored} {pool : List Element} 
         le-leb held 128 (p .room),
         p .its-ids ∙ fill-whole _ _ _ _ h ∙ sym (ids-tab seen 8 z),
         p .its-sites ∙ fill-whole _ _ _ _ h ∙ sym (sites-tab base seen 8 z),
-        p .its-plain ∙ fill-whole _ _ _ _ (omega arith) ∙ sym (plains-tab seen z two),
+        p .its-plain ∙ fill-whole _ _ _ _ (omega arith) ∙ sym (plains-tab seen z room-each),
       )
 
   -- the arrays have a slot for each entry
@@ -234,22 +232,27 @@ module _ {base : ℕ} {mem : List ℕ} {es : List Stored} {pool : List Element} 
         view-at es pool i (omega (arith, p .size))
         ∙ ap (λ (n : ℕ). viewEntry e (take (sizeOf e) (drop n pool))) (sym (p .start))
 
-    -- the entry's plain bytes are stored
-    abbrev pub stored : List ℕ
-    stored = set (set plain (2 * i) (getD (e .plain) 0 0)) (2 * i + 1) (getD (e .plain) 1 0)
+    -- the entry's plain bytes are stored: the first n of its room
+    abbrev storing : ℕ → List ℕ
+    storing zero = plain
+    storing (suc n) = set (storing n) (4 * i + n) (getD (e .plain) n 0)
 
-    store-plain : stored ≡ filled (plainByte seen) (λ _. 0) (2 * (i + 1)) 16
+    abbrev pub stored : List ℕ
+    stored = set (set (set (set plain (4 * i) (getD (e .plain) 0 0)) (4 * i + 1) (getD (e .plain) 1 0)) (4 * i + 2)
+        (getD (e .plain) 2 0)) (4 * i + 3) (getD (e .plain) 3 0)
+
+    stored-some : (n : ℕ) → n ≤ 4 → storing n ≡ filled (plainByte seen) (λ _. 0) (4 * i + n) 32
+    stored-some zero b = rw (add-zero (4 * i)) (p .its-plain)
+    stored-some (suc n) b =
+        let slot : (4 * i + n) / 4 ≡ i = omega arith in
+        let at : (4 * i + n) % 4 ≡ n = omega arith in
+        let next : 4 * i + suc n ≡ 4 * i + n + 1 = omega arith in
+        rw next (fill-set _ _ _ 32 (stored-some n (omega arith)) (getD (e .plain) n 0) (rw (slot, at, here)))
+
+    store-plain : stored ≡ filled (plainByte seen) (λ _. 0) (4 * (i + 1)) 32
     store-plain =
-        let low : 2 * i / 2 ≡ i = omega arith in
-        let none : 2 * i % 2 ≡ 0 = omega arith in
-        let high : (2 * i + 1) / 2 ≡ i = omega arith in
-        let one : (2 * i + 1) % 2 ≡ 1 = omega arith in
-        let next : 2 * (i + 1) ≡ 2 * i + 1 + 1 = omega arith in
-        let first = fill-set _ _ _ 16 (p .its-plain) (getD (e .plain) 0 0)
-        (rw (low, none, here) (sym (getD-take 2 (e .plain) 0 0 (omega arith)))) in
-        rw next
-        (fill-set _ _ _ 16 first (getD (e .plain) 1 0)
-        (rw (high, one, here) (sym (getD-take 2 (e .plain) 1 0 (omega arith)))))
+        let next : 4 * (i + 1) ≡ 4 * i + 4 = omega arith in
+        rw (next, ← stored-some 4 (omega arith), add-zero (4 * i))
 
     -- the entry is fit, and the arrays hold it
     scan-more : (its others : List ℕ) (n : ℕ) → its ≡ filled (λ k. idOf (entryAt seen k)) (λ _. freeId) (i + 1) 8

@@ -135,8 +135,11 @@ fn scan_table(mem: &[u8], base: u32, t: Table, places: &[u32; Table::WORDS]) -> 
     let mut i: usize = 0;
     while i < Table::ENTRIES {
         let e = t.entries[i];
-        plain[2 * i] = e.plain[0];
-        plain[2 * i + 1] = e.plain[1];
+        let slot = Entry::ROOM * i;
+        plain[slot] = e.plain[0];
+        plain[slot + 1] = e.plain[1];
+        plain[slot + 2] = e.plain[2];
+        plain[slot + 3] = e.plain[3];
         if e.used != 0 {
             if !used_fit(mem, base, places, e, held) {
                 return unfit();

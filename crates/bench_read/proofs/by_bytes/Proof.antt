@@ -18,7 +18,7 @@ use Rattle.bench_read.proofs.by_bytes.Tie as tie
 
 abbrev Inv-loop : tie.InvT-loop
 Inv-loop part sites plain at all kept from out₀ j₀ out j =
-    (j ≤ 9) × (j ≤ length part) × (from < 4294967296) × (length sites ≡ 8) × (length plain ≡ 16) × (length out ≡ 9)
+    (j ≤ 9) × (j ≤ length part) × (from < 4294967296) × (length sites ≡ 8) × (length plain ≡ 32) × (length out ≡ 9)
     × (out ≡ filled (partAt 2 sites plain part from) (λ _. 0) j 9)
 
 abbrev μ-loop : tie.MeasureT-loop
@@ -82,7 +82,7 @@ loop-again c =
       i .3,
       i .4,
       ap length (w .2) ∙ simp length-set (i .5),
-      w .2 ∙ rw (i .6, mul-comm 2 k, q, ← byte-under 2 s (now (a .plain)) at old (slot-covers 2 s at (omega arith)))
+      w .2 ∙ rw (i .6, mul-comm 4 k, q, ← byte-under 2 s (now (a .plain)) at old (slot-covers 2 s at (omega arith)))
           (fill-more _ _ _ 9),
     ))
     (λ w. (

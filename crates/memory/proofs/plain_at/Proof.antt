@@ -26,7 +26,7 @@ returns : tie.Need-returns
 returns c =
     let s = c .before .before .slot-of in
     let a = c .before .before .before .before .before .args in
-    rw (mul-comm 2 (s .result), s .ensures)
+    rw (mul-comm 4 (s .result), s .ensures)
     (sym (plain-under 2 (now (a .sites)) (now (a .plain)) (now (a .mem)) (a .at)
     (slot-covers 2 (now (a .sites)) (a .at) (omega (arith, s .ensures)))))
 

@@ -17,7 +17,7 @@ use Rattle.memory.proofs.restore.Tie as tie
 abbrev Inv-loop : tie.InvT-loop
 Inv-loop mem₀ sites plain all k₀ mem k =
     (k ≤ 8) × (length sites ≡ 8) × (length mem ≡ length mem₀)
-    × (mem ≡ plainOf 2 (drop k sites) (drop (k * 2) plain) mem₀)
+    × (mem ≡ plainOf 2 (drop k sites) (drop (k * 4) plain) mem₀)
 
 abbrev μ-loop : tie.MeasureT-loop
 μ-loop mem₀ sites plain all k₀ mem k = k
@@ -62,13 +62,13 @@ loop-less c = omega arith
 
 -- one turn: the bytes of slot k go over plain memory of the slots after it
 turn : (sites plain mem₀ mem : List ℕ) (k n : ℕ) → k + 1 ≡ n → k < length sites
-    → mem ≡ plainOf 2 (drop n sites) (drop (n * 2) plain) mem₀
-    → laidOver (getD plain (2 * k) 0 ∷ getD plain (2 * k + 1) 0 ∷ []) (getD sites k 0 ∷ []) mem
-    ≡ plainOf 2 (drop k sites) (drop (k * 2) plain) mem₀
+    → mem ≡ plainOf 2 (drop n sites) (drop (n * 4) plain) mem₀
+    → laidOver (getD plain (4 * k) 0 ∷ getD plain (4 * k + 1) 0 ∷ []) (getD sites k 0 ∷ []) mem
+    ≡ plainOf 2 (drop k sites) (drop (k * 4) plain) mem₀
 turn sites plain mem₀ mem k n z h e =
-    rw (e, ← z, mul-comm 2 k)
-    (plain-from (getD plain (k * 2) 0 ∷ getD plain (k * 2 + 1) 0 ∷ []) mem₀ (omega arith) sites plain k h
-    (λ r l. pair-at (λ p. getD plain p 0) (k * 2) 0 r l))
+    rw (e, ← z, mul-comm 4 k)
+    (plain-from (getD plain (k * 4) 0 ∷ getD plain (k * 4 + 1) 0 ∷ []) mem₀ (omega arith) sites plain k h
+    (λ r l. pair-at (λ p. getD plain p 0) (k * 4) 0 r l))
 
 loop-again : tie.Need-loop-again Inv-loop μ-loop
 loop-again c =

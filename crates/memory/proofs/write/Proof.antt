@@ -18,7 +18,7 @@ use Rattle.memory.proofs.write.Tie as tie
 
 abbrev Inv-loop : tie.InvT-loop
 Inv-loop mem₀ sites at bytes all kept₀ j₀ mem kept j =
-    (j ≤ length bytes) × (at + length bytes ≤ length mem₀) × (length sites ≡ 8) × (length kept₀ ≡ 16)
+    (j ≤ length bytes) × (at + length bytes ≤ length mem₀) × (length sites ≡ 8) × (length kept₀ ≡ 32)
     × (length mem ≡ length mem₀) × (length kept ≡ length kept₀)
     × (mem ≡ memAfter 2 sites mem₀ at (take j bytes)) × (kept ≡ plainAfter 2 sites kept₀ at (take j bytes))
 
@@ -80,8 +80,8 @@ loop-again c =
       ap length (w .2) ∙ i .4,
       ap length (w .3) ∙ simp length-set (i .5),
       w .2 ∙ i .6 ∙ mem-kept 2 s (now (a .mem)) (a .at) b (o .j) t (slot-covers 2 s at (omega arith)),
-      w .3 ∙ rw (i .7, mul-comm 2 k, q)
-          (plain-stored 2 s (now (a .plain)) (a .at) (omega arith) (omega arith) b (o .j) t
+      w .3 ∙ rw (i .7, mul-comm 4 k, q)
+          (plain-stored 2 s (now (a .plain)) (a .at) (omega arith) b (o .j) t (omega arith) (omega arith)
           (slot-covers 2 s at (omega arith))),
     ))
     (λ w. (
@@ -92,7 +92,7 @@ loop-again c =
       ap length (w .2) ∙ simp length-set (i .4),
       ap length (w .3) ∙ i .5,
       w .2 ∙ rw (i .6) (mem-stored 2 s (now (a .mem)) (a .at) b (o .j) t (slot-none 2 s at (omega arith))),
-      w .3 ∙ i .7 ∙ plain-kept 2 s (now (a .plain)) (a .at) (omega arith) (omega arith) b (o .j) t
+      w .3 ∙ i .7 ∙ plain-kept 2 s (now (a .plain)) (a .at) (omega arith) b (o .j) t
           (slot-none 2 s at (omega arith)),
     ))
     (c .if1 .came)

@@ -17,7 +17,7 @@ use Rattle.memory_read.proofs.lay_all.Tie as tie
 abbrev Inv-loop : tie.InvT-loop
 Inv-loop out₀ at n sites plain all k₀ out k =
     (k ≤ 8) × (length sites ≡ 8) × (length out ≡ length out₀)
-    × (out ≡ laidAll 2 (drop k sites) (drop (k * 2) plain) at n out₀)
+    × (out ≡ laidAll 2 (drop k sites) (drop (k * 4) plain) at n out₀)
 
 abbrev μ-loop : tie.MeasureT-loop
 μ-loop out₀ at n sites plain all k₀ out k = k
@@ -63,13 +63,13 @@ loop-less c = omega arith
 
 -- one turn: the bytes of slot k go over those of the slots after it
 turn : (sites plain out₀ out : List ℕ) (at n k m : ℕ) → k + 1 ≡ m → k < length sites
-    → out ≡ laidAll 2 (drop m sites) (drop (m * 2) plain) at n out₀
-    → laidFrom (getD plain (2 * k) 0 ∷ getD plain (2 * k + 1) 0 ∷ []) (getD sites k 0) at n out
-    ≡ laidAll 2 (drop k sites) (drop (k * 2) plain) at n out₀
+    → out ≡ laidAll 2 (drop m sites) (drop (m * 4) plain) at n out₀
+    → laidFrom (getD plain (4 * k) 0 ∷ getD plain (4 * k + 1) 0 ∷ []) (getD sites k 0) at n out
+    ≡ laidAll 2 (drop k sites) (drop (k * 4) plain) at n out₀
 turn sites plain out₀ out at n k m z h e =
-    rw (e, ← z, mul-comm 2 k)
-    (all-from (getD plain (k * 2) 0 ∷ getD plain (k * 2 + 1) 0 ∷ []) at n out₀ sites plain k h (omega arith)
-    (λ r l. pair-at (λ p. getD plain p 0) (k * 2) 0 r l))
+    rw (e, ← z, mul-comm 4 k)
+    (all-from (getD plain (k * 4) 0 ∷ getD plain (k * 4 + 1) 0 ∷ []) at n out₀ sites plain k h (omega arith)
+    (λ r l. pair-at (λ p. getD plain p 0) (k * 4) 0 r l))
 
 loop-again : tie.Need-loop-again Inv-loop μ-loop
 loop-again c =

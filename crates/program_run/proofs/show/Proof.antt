@@ -7,6 +7,7 @@ use borrow.Author.Needs.{needs}
 use denote.Ref.{now}
 use lib.ListN.{length, length-set, length-take, length-drop, length-append}
 use Rattle.memory.proofs.Bytes.{length-overwritten}
+use Rattle.memory.specs.Head.{house}
 use Rattle.rules.specs.Outcome.{answerBytes}
 use Rattle.program_run.proofs.Steps.{length-answer}
 use Rattle.program_run.proofs.Writes.{writes-stored, writes-part, shown-refused, shown-whole}
@@ -43,7 +44,7 @@ add-result c =
     omega (
       arith,
       r .show-reply .ensures .filled,
-      length-append (now (a .reply)) (answerBytes (a .answer)),
+      length-append (now (a .reply)) (answerBytes house (a .answer)),
       length-answer (a .answer),
     )
 
@@ -52,9 +53,9 @@ returns-2 c =
     let r = c .before .before in
     let i = r .before .before in
     let a = i .before .before .before .args in
-    let size = length-append (now (a .reply)) (answerBytes (a .answer)) in
+    let size = length-append (now (a .reply)) (answerBytes house (a .answer)) in
     let few = length-answer (a .answer) in
-    rw (shown-whole (a .number) (now (a .reply) ++ answerBytes (a .answer)) (i .if1 .left))
+    rw (shown-whole (a .number) (now (a .reply) ++ answerBytes house (a .answer)) (i .if1 .left))
     (writes-part _ _ _ _ (writes-stored (now (a .out)) _ (a .number ∷ []) refl (omega arith)) (omega arith) _ _ _
     (r .show-reply .ensures) (omega arith))
 

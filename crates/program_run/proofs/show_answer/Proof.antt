@@ -4,6 +4,7 @@ use mathlib.Core.Path.{ap}
 use mathlib.Core.List.{[], _∷_}
 use native.Mathlib.Omega.{arith}
 use lib.ListN.{length-set}
+use Rattle.memory.specs.Head.{house}
 use Rattle.rules.specs.Outcome.{answerBytes}
 use Rattle.program_run.proofs.Writes.{writes-stored}
 use borrow.Author.Needs.{needs}
@@ -48,14 +49,14 @@ slice-write-out-7 c = search needs
 
 returns : tie.Need-returns
 unfolding answerBytes
-returns c = writes-stored _ _ [] (ap answerBytes (c .enum-told .given .1)) (omega arith)
+returns c = writes-stored _ _ [] (ap (answerBytes house) (c .enum-told .given .1)) (omega arith)
 
 same-length : tie.Need-same-length
 same-length c = search needs
 
 returns-2 : tie.Need-returns-2
 unfolding answerBytes
-returns-2 c = let p = c .before .answer .given in writes-stored _ _ (1 ∷ p .0 .0 ∷ []) (ap answerBytes (p .1))
+returns-2 c = let p = c .before .answer .given in writes-stored _ _ (1 ∷ p .0 .0 ∷ []) (ap (answerBytes house) (p .1))
     (omega arith)
 
 same-length-2 : tie.Need-same-length-2
@@ -65,21 +66,21 @@ returns-3 : tie.Need-returns-3
 unfolding answerBytes
 returns-3 c =
     let p = c .before .answer2 .given in
-    writes-stored _ _ (2 ∷ p .0 .0 ∷ p .0 .1 .0 ∷ []) (ap answerBytes (p .1)) (omega arith)
+    writes-stored _ _ (2 ∷ p .0 .0 ∷ p .0 .1 .0 ∷ []) (ap (answerBytes house) (p .1)) (omega arith)
 
 same-length-3 : tie.Need-same-length-3
 same-length-3 c = search needs
 
 returns-4 : tie.Need-returns-4
 unfolding answerBytes
-returns-4 c = writes-stored _ _ (1 ∷ []) (ap answerBytes (c .enum-told2 .given .1)) (omega arith)
+returns-4 c = writes-stored _ _ (1 ∷ []) (ap (answerBytes house) (c .enum-told2 .given .1)) (omega arith)
 
 same-length-4 : tie.Need-same-length-4
 same-length-4 c = search needs
 
 returns-5 : tie.Need-returns-5
 unfolding answerBytes
-returns-5 c = writes-stored _ _ (0 ∷ []) (ap answerBytes (c .enum-told3 .given .1)) (omega arith)
+returns-5 c = writes-stored _ _ (0 ∷ []) (ap (answerBytes house) (c .enum-told3 .given .1)) (omega arith)
 
 pub show-answer-spec : {M : Type 1} → statement M
 show-answer-spec =

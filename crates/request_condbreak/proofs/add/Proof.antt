@@ -59,7 +59,7 @@ module _ (a : tie.After-room-for) (e : a .room-for .result ≡ Fits) where
       let t = s .args .t in
       rw (
         table-held (t .table) (elementsOf (now (s .args .places))),
-        size-hand t (replicate 16 0) (now (s .args .places)) (hand a Fits e),
+        size-hand t (replicate 32 0) (now (s .args .places)) (hand a Fits e),
       ) at (s .pre .held)
 
   free : start a .args .s .held < 128

@@ -132,7 +132,7 @@ returns-4 c =
     let s = start f in
     λ words mem regs r.
     replies (s .args .t) Rcondbreak words mem regs (c .done .ensures) refl
-    ∙ rw (view-begun (s .args .t) (replicate 16 0) words (s .args .val))
+    ∙ rw (view-begun (s .args .t) (replicate 32 0) words (s .args .val))
     (begins (viewOf (s .args .t) words) mem regs (s .args .val) (eight-at s words) (omega arith)
     (omega (arith, found f words r)) (λ h. x .if3 .left (omega (arith, free g words r))))
 

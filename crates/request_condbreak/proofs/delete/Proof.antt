@@ -12,6 +12,7 @@ use denote.Ref.{now}
 use lib.ListN.{length}
 use Rattle.breakpoint.proofs.Laws.{ready-good}
 use Rattle.breakpoint.specs.Breaks.{Removable}
+use Rattle.memory.specs.Head.{house}
 use Rattle.rules.specs.Breakpoint.{removed}
 use Rattle.rules.specs.Condition.{deleteBreakpoint}
 use Rattle.rules.specs.Outcome.{world, replied, error}
@@ -23,7 +24,7 @@ use Rattle.pool.proofs.Sizes.{start-up, start-held}
 use Rattle.target.specs.View.{elementsOf, draftSize, startAt, heldBy, viewOf}
 use Rattle.target.specs.Free.{isFree}
 use Rattle.target_fit.specs.Fit.{entryAt, entryOf}
-use Rattle.target_fit.proofs.Slots.{eight-entries, eight-stored, two-each}
+use Rattle.target_fit.proofs.Slots.{eight-entries, eight-stored, roomy}
 use Rattle.target_fit.proofs.View.{table-held}
 use Rattle.wire.specs.declared.Message.the-variants.{Rcondbreak}
 use Rattle.request_condbreak.proofs.Laws.{id-found}
@@ -71,7 +72,7 @@ removable t =
       plain = s .pre .plain;
       below = t .if2 .taken;
       eight = eight s;
-      two = two-each (s .args .t) _ (elementsOf (words s)) (s .good .0);
+      room = roomy (s .args .t) _ (elementsOf (words s)) (s .good .0);
       used = ap (λ (k : ℕ). isFree (entryAt es k)) (found f) ∙ u;
     }
 
@@ -152,7 +153,7 @@ returns-2 c =
     (omega (arith, eight-stored (a .t) _ (s .good .0), t .if2 .taken)) (h .start-of .ensures .0) (next-at n) (held s)
     (r .turn .ensures .0) (omega (arith, few s, r .turn .ensures .1))
     (put-back-at h .put-back .ensures (viewOf (a .t) (words s)) regs (removable t))
-    ∙ ap (λ (k : ℕ). replied Rcondbreak (removed w k)) (found f))
+    ∙ ap (λ (k : ℕ). replied Rcondbreak (removed house w k)) (found f))
 
 answering-requires-2 : tie.Need-answering-requires-2
 answering-requires-2 c κs = search needs

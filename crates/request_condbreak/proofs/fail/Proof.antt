@@ -19,7 +19,7 @@ answering-requires c κs = search needs
 returns : tie.Need-returns
 unfolding failed dropped error
 returns c = λ t words mem regs. replies t _ words mem regs (c .answering .ensures) (c .before .bytes-of .ensures)
-    ∙ rw (view-dropped t (replicate 16 0) words)
+    ∙ rw (view-dropped t (replicate 32 0) words)
 
 pub fail-spec : {M : Type 1} → statement M
 fail-spec = tie.close (tie.spec bytes-of-requires answering-requires returns)

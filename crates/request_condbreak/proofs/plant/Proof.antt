@@ -46,7 +46,7 @@ module _ (f : tie.After-entry-of) where
       let t = s .args .t in
       rw (
         table-held (t .table) (elementsOf (now (s .args .places))),
-        size-hand t (replicate 16 0) (now (s .args .places)) (s .pre .hand),
+        size-hand t (replicate 32 0) (now (s .args .places)) (s .pre .hand),
       ) at (s .pre .held)
 
   -- the condition in hand starts where the entries' places end

@@ -9,6 +9,7 @@ use borrow.Author.Needs.{needs}
 use borrow.Author.Tests.{eq-eqb, ne-eqb, not-true, not-false}
 use denote.Ref.{now}
 use Rattle.condition.specs.Depth.{wellFormed}
+use Rattle.memory.specs.Head.{house}
 use Rattle.rules.specs.Condition.{inHand, siteFree, setBreakpoint}
 use Rattle.breakpoint.proofs.Laws.{ready-findable}
 use Rattle.rules.specs.Outcome.{World, world}
@@ -29,14 +30,14 @@ held : (f : tie.After-site-free) (regs : List ℕ) → inHand (world-at f regs) 
 unfolding inHand
 held f regs = rw (ne-eqb _ 0 (f .before .if1 .left))
 
-tested : (f : tie.After-site-free) (regs : List ℕ) → siteFree (world-at f regs) (start f .args .val)
+tested : (f : tie.After-site-free) (regs : List ℕ) → siteFree house (world-at f regs) (start f .args .val)
     ≡ f .site-free .result
 tested f regs =
     let s = start f in
     sym (f .site-free .ensures (now (s .args .places)) _ regs
     (ready-findable (s .args .t) _ _ (s .good .0) (s .args .s) _ (s .pre)))
 
-free : (e : tie.Else2) (regs : List ℕ) → siteFree (world-at (e .before) regs) (start (e .before) .args .val) ≡ true
+free : (e : tie.Else2) (regs : List ℕ) → siteFree house (world-at (e .before) regs) (start (e .before) .args .val) ≡ true
 free e regs = tested (e .before) regs ∙ not-false _ (e .if2 .left)
 
 fail-requires : tie.Need-fail-requires

@@ -7,7 +7,8 @@ use denote.Ref.{now}
 use borrow.Author.Needs.{needs}
 use lib.ListN.{length, take}
 use lib.Seq.{length-take-le}
-use Rattle.target_fit.proofs.Slots.{eight-stored, two-each}
+use Rattle.target_fit.proofs.Slots.{roomy}
+use Rattle.memory.specs.Head.{house}
 use Rattle.memory.specs.declared.Place.the-variants.{Window}
 use Rattle.memory.proofs.Parts.{named, within-registers, within-window}
 use Rattle.step_effect.specs.Change.{stored}
@@ -16,7 +17,7 @@ use Rattle.rules.specs.Outcome.{world, Outcome}
 use Rattle.target.specs.View.{elementsOf, viewOf}
 use Rattle.rules.specs.Request.{putTo, mput}
 use Rattle.wire.specs.Message.{bytes4}
-use Rattle.request_memory.proofs.Laws.{refuses, put-stored, put-same, sixteen, length-after}
+use Rattle.request_memory.proofs.Laws.{refuses, put-stored, put-same, scan-plain, length-after}
 use Rattle.request_memory.proofs.Laws.{put-none, put-to}
 use Rattle.request_memory.proofs.mput.Statement.{statement}
 use Rattle.request_memory.proofs.mput.Tie as tie
@@ -105,23 +106,23 @@ start p = replied p .before .before .before
 -- the window is the place that the address names
 to-window : (p : tie.After-write) → let a = start p .args in
     (words : List ℕ) → let w = world (viewOf (a .t) words) (now (a .mem)) (now (a .regs)) in
-    (x : Outcome) → x ≡ putTo Window w (a .addr) (take (a .n) (bytes4 (a .d))) → x ≡ mput w (a .addr) (a .n) (a .d)
+    (x : Outcome) → x ≡ putTo house Window w (a .addr) (take (a .n) (bytes4 (a .d))) → x ≡ mput house w (a .addr) (a .n) (a .d)
 to-window p words x h =
     let e = p .before .before .before .before .before .before .before .before in
     let k = e .before .before in
     put-to _ _ _ _ (k .before .if1 .left) Window (named _ _ _ _ _ _ (k .place-of .ensures) (e .enum-told2 .given .1)) x
     h
 
-plain-sixteen : (p : tie.After-write) → 16 ≡ length (start p .args .s .plain)
-plain-sixteen p = let s = start p in sixteen (s .args .s) _ (s .good .1 .0)
+plain-room : (p : tie.After-write) → 32 ≡ length (start p .args .s .plain)
+plain-room p = let s = start p in scan-plain (s .args .s) _ (s .good .1 .0)
 
 slice-aggregate-equal : tie.Need-slice-aggregate-equal
-slice-aggregate-equal c = plain-sixteen (c .before .before .before .before)
+slice-aggregate-equal c = plain-room (c .before .before .before .before)
 
 slice-aggregate-equal-2 : tie.Need-slice-aggregate-equal-2
 slice-aggregate-equal-2 c =
     let p = c .before .before .before .before .before in
-    omega (arith, plain-sixteen p, length-after 2 _ _ _ _ _ (p .write .ensures .1))
+    omega (arith, plain-room p, length-after 2 _ _ _ _ _ (p .write .ensures .1))
 
 equal-requires : tie.Need-equal-requires
 equal-requires c κs = search needs
@@ -145,7 +146,7 @@ returns-2 c words f =
     (put-same (world (viewOf (a .t) words) (now (a .mem)) (now (a .regs))) (a .addr) _ _ _ (f .sites) (f .plain)
     _ _ _
     (p .write .ensures .0) (p .write .ensures .1) (replied p .bytes-of .ensures)
-    (two-each (a .t) _ (elementsOf words) (s .good .0)) (sym (q .equal .ensures) ∙ c .before .if2 .taken)))
+    (roomy (a .t) _ (elementsOf words) (s .good .0)) (sym (q .equal .ensures) ∙ c .before .if2 .taken)))
 
 of-requires : tie.Need-of-requires
 of-requires c κs = search needs
@@ -185,8 +186,7 @@ returns-4 c words f =
     let s = start p in
     let a = s .args in
     to-window p words _
-    (put-stored (a .t) words (now (a .mem)) (now (a .regs)) (a .addr) _ _ _ _ _ _ (eight-stored (a .t) _ (s .good .0))
-    (plain-sixteen p) (f .sites) (f .plain) (p .write .ensures .0) (p .write .ensures .1) (replied p .bytes-of .ensures)
+    (put-stored (a .t) words (now (a .mem)) (now (a .regs)) (a .addr) _ _ _ _ _ _ (f .sites) (f .plain) (p .write .ensures .0) (p .write .ensures .1) (replied p .bytes-of .ensures)
     _ (c .of .ensures))
 
 returns-5 : tie.Need-returns-5

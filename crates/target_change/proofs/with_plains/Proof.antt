@@ -1,13 +1,13 @@
 -- `target_change::with_plains` meets its contract: the loop's invariant is that entries before k are as the definition
 -- has them, those from k on as they were. Assumes nothing.
 use mathlib.Core.Path.{_≡_, refl, ap, _∙_}
-use Prim.Native.Nat.{_+_, _*_, _-_, _≤_, _<_}
+use Prim.Native.Nat.{ℕ, _+_, _*_, _-_, _≤_, _<_}
 use native.Mathlib.Omega.{arith}
-use lib.ListN.{length, getD, take, drop, length-set}
+use lib.ListN.{length, getD, set, take, drop, length-set}
 use Rattle.step_effect.specs.Change.{storePlains}
 use Rattle.target.specs.Fresh.{pastEntries}
-use Rattle.target.specs.declared.Entry.{Entry}
-use Rattle.target_change.proofs.Plains.{entry-plain, put-in, still, plains-more, plains-rest, plains-done}
+use mathlib.Core.List.{List}
+use Rattle.target_change.proofs.Plains.{withPlain, four-bytes, plains-more, plains-rest, plains-done}
 use Rattle.target_change.proofs.with_plains.Statement.{statement}
 use Rattle.target_change.proofs.with_plains.Tie as tie
 
@@ -21,32 +21,35 @@ abbrev μ-loop : tie.MeasureT-loop
 loop-holds : tie.Need-loop-holds Inv-loop μ-loop
 loop-holds c = (omega arith, omega arith, refl, refl)
 
+mul-at : tie.Need-mul-at Inv-loop μ-loop
+mul-at c = omega arith
+
+array-read-t12 : tie.Need-array-read-t12 Inv-loop μ-loop
+array-read-t12 c = omega arith
+
+add-t13 : tie.Need-add-t13 Inv-loop μ-loop
+add-t13 c = omega arith
+
+array-read-t16 : tie.Need-array-read-t16 Inv-loop μ-loop
+array-read-t16 c = omega arith
+
+add-t17 : tie.Need-add-t17 Inv-loop μ-loop
+add-t17 c = omega arith
+
+array-read-t20 : tie.Need-array-read-t20 Inv-loop μ-loop
+array-read-t20 c = omega arith
+
+add-t21 : tie.Need-add-t21 Inv-loop μ-loop
+add-t21 c = omega arith
+
+array-read-t24 : tie.Need-array-read-t24 Inv-loop μ-loop
+array-read-t24 c = omega arith
+
 mul-e : tie.Need-mul-e Inv-loop μ-loop
 mul-e c = omega arith
 
 array-copy-out-e : tie.Need-array-copy-out-e Inv-loop μ-loop
 array-copy-out-e c = omega arith
-
-mul-e-2 : tie.Need-mul-e-2 Inv-loop μ-loop
-mul-e-2 c = omega arith
-
-array-read-e : tie.Need-array-read-e Inv-loop μ-loop
-array-read-e c = omega arith
-
-element-write-e : tie.Need-element-write-e Inv-loop μ-loop
-element-write-e c = omega arith
-
-mul-e-3 : tie.Need-mul-e-3 Inv-loop μ-loop
-mul-e-3 c = omega arith
-
-add-e : tie.Need-add-e Inv-loop μ-loop
-add-e c = omega arith
-
-array-read-e-2 : tie.Need-array-read-e-2 Inv-loop μ-loop
-array-read-e-2 c = omega arith
-
-element-write-e-2 : tie.Need-element-write-e-2 Inv-loop μ-loop
-element-write-e-2 c = omega arith
 
 mul-fs : tie.Need-mul-fs Inv-loop μ-loop
 mul-fs c = omega arith
@@ -67,10 +70,8 @@ loop-again c =
     let a = s .args in
     let h : o .k < length (a .es) = omega arith in
     let z : length (o .fs) ≡ length (a .es) = omega arith in
-    let four : length (getD (o .fs) (o .k) pastEntries .plain) ≡ 4 =
-    ap (λ (e : Entry). length (e .plain)) (still (a .es) (o .fs) (a .t2) (o .k) z h (o .inv .3))
-    ∙ entry-plain 8 (a .es) _ (o .k) (s .good .0) h in
-    let w = put-in (o .fs) (o .k) (getD (a .t2) (2 * o .k) 0) (getD (a .t2) (2 * o .k + 1) 0) _ four refl in (
+    let w = ap (λ (p : List ℕ). set (o .fs) (o .k) (withPlain (getD (o .fs) (o .k) pastEntries) p))
+    (four-bytes (a .t2) (o .k) (omega arith)) in (
       omega arith,
       simp length-set (o .inv .1),
       plains-more (a .es) (o .fs) (a .t2) (o .k) z h (o .inv .3) _ w (o .inv .2),
@@ -90,15 +91,16 @@ with-plains-spec =
     Inv-loop
     μ-loop
     loop-holds
+    mul-at
+    array-read-t12
+    add-t13
+    array-read-t16
+    add-t17
+    array-read-t20
+    add-t21
+    array-read-t24
     mul-e
     array-copy-out-e
-    mul-e-2
-    array-read-e
-    element-write-e
-    mul-e-3
-    add-e
-    array-read-e-2
-    element-write-e-2
     mul-fs
     array-set-from-fs
     add-k

@@ -46,11 +46,11 @@ mul-e c = search needs
 element-copy-out-e : tie.Need-element-copy-out-e Inv-loop μ-loop
 element-copy-out-e c = search needs
 
+mul-slot : tie.Need-mul-slot Inv-loop μ-loop
+mul-slot c = search needs
+
 element-copy-out-plain : tie.Need-element-copy-out-plain Inv-loop μ-loop
 element-copy-out-plain c = search needs
-
-mul-plain : tie.Need-mul-plain Inv-loop μ-loop
-mul-plain c = search needs
 
 array-write-plain : tie.Need-array-write-plain Inv-loop μ-loop
 array-write-plain c = search needs
@@ -58,14 +58,29 @@ array-write-plain c = search needs
 element-copy-out-plain-2 : tie.Need-element-copy-out-plain-2 Inv-loop μ-loop
 element-copy-out-plain-2 c = search needs
 
-mul-plain-2 : tie.Need-mul-plain-2 Inv-loop μ-loop
-mul-plain-2 c = search needs
-
 add-plain : tie.Need-add-plain Inv-loop μ-loop
 add-plain c = search needs
 
 array-write-plain-2 : tie.Need-array-write-plain-2 Inv-loop μ-loop
 array-write-plain-2 c = search needs
+
+element-copy-out-plain-3 : tie.Need-element-copy-out-plain-3 Inv-loop μ-loop
+element-copy-out-plain-3 c = search needs
+
+add-plain-2 : tie.Need-add-plain-2 Inv-loop μ-loop
+add-plain-2 c = search needs
+
+array-write-plain-3 : tie.Need-array-write-plain-3 Inv-loop μ-loop
+array-write-plain-3 c = search needs
+
+element-copy-out-plain-4 : tie.Need-element-copy-out-plain-4 Inv-loop μ-loop
+element-copy-out-plain-4 c = search needs
+
+add-plain-3 : tie.Need-add-plain-3 Inv-loop μ-loop
+add-plain-3 c = search needs
+
+array-write-plain-4 : tie.Need-array-write-plain-4 Inv-loop μ-loop
+array-write-plain-4 c = search needs
 
 used-fit-requires : tie.Need-used-fit-requires Inv-loop μ-loop
 used-fit-requires c κs = search needs
@@ -77,21 +92,21 @@ returns : tie.Need-returns Inv-loop μ-loop
 returns c =
     let f = c .before .before in
     let b = f .before in
-    let o = b .before .before .before .before in
+    let o = b .before .before .before .before .before .before in
     unfit-entries _ _ _ _ _ (c .unfit .ensures)
     (scan-unfit (o .before .loop .inv .0) (o .loop-test .taken) (b .if1 .taken) _ (f .used-fit .ensures)
     (c .before .if2 .taken))
 
 cast-id : tie.Need-cast-id Inv-loop μ-loop
 cast-id c =
-    let o = c .before .before .before .before .before .before in
+    let o = c .before .before .before .before .before .before .before .before in
     record { fits = omega (arith, o .before .loop .inv .0 .shape _ (o .loop-test .taken) .id) }
 
 sub-at : tie.Need-sub-at Inv-loop μ-loop
 sub-at c =
     let f = c .before in
     let b = f .before in
-    let o = b .before .before .before .before in
+    let o = b .before .before .before .before .before .before in
     site-over (o .before .loop .inv .0) (o .loop-test .taken) (b .if1 .taken) _ (f .used-fit .ensures) (c .if2 .left)
 
 cast-id-place : tie.Need-cast-id-place Inv-loop μ-loop
@@ -114,7 +129,7 @@ apart-requires c κs =
     let d = c .before .before in
     let f = d .before in
     let b = f .before in
-    let o = b .before .before .before .before in
+    let o = b .before .before .before .before .before .before in
     let inv = o .before .loop .inv in
     let h = o .loop-test .taken in (
       omega arith,
@@ -131,7 +146,7 @@ returns-2 c =
     let d = g .before .before .before in
     let f = d .before in
     let b = f .before in
-    let o = b .before .before .before .before in
+    let o = b .before .before .before .before .before .before in
     unfit-entries _ _ _ _ _ (c .unfit2 .ensures)
     (scan-clash (o .before .loop .inv .0) (o .loop-test .taken) (b .if1 .taken) _ (f .used-fit .ensures)
     (d .if2 .left) _ (g .apart .ensures) (c .before .if3 .taken))
@@ -156,7 +171,7 @@ array-write-sites c = search needs
 
 -- the entry whose places are counted
 abbrev counted : tie.Else3 Inv-loop μ-loop → tie.In-loop Inv-loop μ-loop
-counted c = c .before .before .before .before .before .before .before .before .before .before
+counted c = c .before .before .before .before .before .before .before .before .before .before .before .before
 
 cast-held : tie.Need-cast-held Inv-loop μ-loop
 cast-held c =
@@ -176,7 +191,7 @@ loop-less c = search needs
 
 loop-again : tie.Need-loop-again Inv-loop μ-loop
 loop-again c =
-    let o = c .before .before .before .before in
+    let o = c .before .before .before .before .before .before in
     let inv = o .before .loop .inv in
     let h = o .loop-test .taken in
     let z = slots (inv .0) in
@@ -203,13 +218,18 @@ scan-table-spec =
     loop-holds
     mul-e
     element-copy-out-e
+    mul-slot
     element-copy-out-plain
-    mul-plain
     array-write-plain
     element-copy-out-plain-2
-    mul-plain-2
     add-plain
     array-write-plain-2
+    element-copy-out-plain-3
+    add-plain-2
+    array-write-plain-3
+    element-copy-out-plain-4
+    add-plain-3
+    array-write-plain-4
     used-fit-requires
     unfit-requires
     returns
