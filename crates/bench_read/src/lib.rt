@@ -6,6 +6,7 @@ ghost use mathlib.Core.Path.{_≡_};
 ghost use Prim.Native.Nat.{min};
 ghost use lib.ListN.{length};
 ghost use lib.Seq.{paste};
+ghost use Rattle.memory.specs.Head.{house, width};
 ghost use Rattle.memory.specs.Write.{partRead};
 
 // The bytes of a part of the window that lies at an offset, those under traps plain, then zeros, byte by byte.
@@ -15,7 +16,7 @@ fn by_bytes(
     plain: &[u8; Table::PLAIN],
     at: u32,
 ) -> [u8; 9]
-    ensures { λ r. ⌜ r ≡ partRead 2 (now (sites .entry)) (now (plain .entry)) (now (part .entry)) at 9 ⌝ }
+    ensures { λ r. ⌜ r ≡ partRead (width house) (now (sites .entry)) (now (plain .entry)) (now (part .entry)) at 9 ⌝ }
 {
     let all = &sites[..];
     let kept = &plain[..];
@@ -47,7 +48,7 @@ pub extern "C" fn sanirvoq_bench_read_by_bytes(
     at: u32,
     out: &mut [u8],
 )
-    ensures { λ _. ⌜ (let r = partRead 2 (now (sites .entry)) (now (plain .entry)) (now (part .entry)) at 9 in
+    ensures { λ _. ⌜ (let r = partRead (width house) (now (sites .entry)) (now (plain .entry)) (now (part .entry)) at 9 in
         now (out .exit) ≡ paste (now (out .entry)) 0 r (min (length (now (out .entry))) (length r))) ⌝ }
 {
     let bytes = by_bytes(part, sites, plain, at);
@@ -63,7 +64,7 @@ pub extern "C" fn sanirvoq_bench_read(
     at: u32,
     out: &mut [u8],
 )
-    ensures { λ _. ⌜ (let r = partRead 2 (now (sites .entry)) (now (plain .entry)) (now (part .entry)) at 9 in
+    ensures { λ _. ⌜ (let r = partRead (width house) (now (sites .entry)) (now (plain .entry)) (now (part .entry)) at 9 in
         now (out .exit) ≡ paste (now (out .entry)) 0 r (min (length (now (out .entry))) (length r))) ⌝ }
 {
     let bytes = memory_read::read(part, sites, plain, at);

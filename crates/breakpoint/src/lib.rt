@@ -53,5 +53,10 @@ pub fn put_back(s: Scan, mem: &mut [u8], k: usize)
 {
     let sites = s.sites;
     let plain = s.plain;
-    memory::lay(mem, sites[k] as usize, plain[Entry::ROOM * k], plain[Entry::ROOM * k + 1]);
+    memory::lay(
+        mem,
+        sites[k] as usize,
+        plain[Entry::ROOM * k],
+        plain[Entry::ROOM * k + 1],
+    );
 }

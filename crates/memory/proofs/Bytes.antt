@@ -217,8 +217,13 @@ module _ (w : ℕ) (pos : 0 < w) (few : w ≤ plainRoom) (sites : List ℕ) (i :
   unfolding holdsPlain
   place-holds =
       let k : ℕ = slotOf w sites i in
-      rw (offset-of-place, part-of plainRoom k (i % w) in-room, place-in plainRoom k (i % w) in-room,
-      lt-ltb (i % w) w (mod-lt i pos), eq-eqb k k refl)
+      rw (
+        offset-of-place,
+        part-of plainRoom k (i % w) in-room,
+        place-in plainRoom k (i % w) in-room,
+        lt-ltb (i % w) w (mod-lt i pos),
+        eq-eqb k k refl,
+      )
 
   module _ (plain : List ℕ) (at : ℕ) (bytes : List ℕ) where
     pub after-at : afterAt w sites plain at bytes (slotOf w sites i * plainRoom + i % w)

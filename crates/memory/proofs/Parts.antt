@@ -113,13 +113,13 @@ copied-zeros part m =
 
 -- what is read of the stretch that an address names
 module _ (mem : List ℕ) (base a n : ℕ) (part : List ℕ) where
-  pub read-window : (sites plain block : List ℕ) → placeOf base (length mem) a n ≡ Window
+  pub read-window : (w : ℕ) (sites plain block : List ℕ) → placeOf base (length mem) a n ≡ Window
       → part ≡ stretchOf (placeOf base (length mem) a n) block mem base a n
-      → partRead 2 sites plain part (a - base) 9 ≡ plainRead 2 sites plain mem (a - base) n 9
+      → partRead w sites plain part (a - base) 9 ≡ plainRead w sites plain mem (a - base) n 9
   unfolding stretchOf
-  read-window sites plain block q f =
+  read-window w sites plain block q f =
       let h = within-window base (length mem) a n q in
-      rw (f, q) (part-window 2 sites plain mem (a - base) n 9 (omega arith))
+      rw (f, q) (part-window w sites plain mem (a - base) n 9 (omega arith))
 
 -- ---- bytes that are put in a part's place
 

@@ -8,6 +8,7 @@ ghost use mathlib.Core.Path.{_≡_};
 ghost use mathlib.Core.List.{_∷_, []};
 ghost use Prim.Native.Nat.{_+_, _≤_};
 ghost use lib.ListN.{length};
+ghost use Rattle.memory.specs.Head.{house, width};
 ghost use Rattle.memory.specs.Overlay.{slotOf, plainAt, plainOf, laidOver};
 ghost use Rattle.memory.specs.Write.{memAfter, plainAfter};
 
@@ -25,7 +26,7 @@ pub enum Place {
 
 // The first slot whose site covers an offset, or 8.
 pub fn slot_of(sites: &[u32; Table::ENTRIES], at: usize) -> usize
-    ensures { λ r. ⌜ r ≡ slotOf 2 (now (sites .entry)) at ⌝ }
+    ensures { λ r. ⌜ r ≡ slotOf (width house) (now (sites .entry)) at ⌝ }
 {
     let all = &sites[..];
     let over = at - at % 2;
@@ -50,7 +51,7 @@ pub fn plain_at(
     plain: &[u8; Table::PLAIN],
     at: usize,
 ) -> u8
-    ensures { λ r. ⌜ r ≡ plainAt 2 (now (sites .entry)) (now (plain .entry)) (now (mem .entry)) at ⌝ }
+    ensures { λ r. ⌜ r ≡ plainAt (width house) (now (sites .entry)) (now (plain .entry)) (now (mem .entry)) at ⌝ }
 {
     let all = &sites[..];
     let k = slot_of(sites, at);
@@ -72,9 +73,9 @@ pub fn write(
     bytes: &[u8],
 )
     requires { ⌜ at + length (now bytes) ≤ length (now mem) ⌝ }
-    ensures { λ _. ⌜ now (mem .exit) ≡ memAfter 2 (now (sites .entry)) (now (mem .entry)) at (now (bytes .entry)) ⌝ }
+    ensures { λ _. ⌜ now (mem .exit) ≡ memAfter (width house) (now (sites .entry)) (now (mem .entry)) at (now (bytes .entry)) ⌝ }
     ensures { λ _. ⌜ now (plain .exit)
-        ≡ plainAfter 2 (now (sites .entry)) (now (plain .entry)) at (now (bytes .entry)) ⌝ }
+        ≡ plainAfter (width house) (now (sites .entry)) (now (plain .entry)) at (now (bytes .entry)) ⌝ }
 {
     let all = &sites[..];
     let kept = &mut plain[..];
@@ -109,12 +110,17 @@ pub fn lay(mem: &mut [u8], site: usize, b0: u8, b1: u8)
 
 // Puts the plain bytes back at every site, the last slot first, so that the first slot of a site decides.
 pub fn restore(mem: &mut [u8], sites: &[u32; Table::ENTRIES], plain: &[u8; Table::PLAIN])
-    ensures { λ _. ⌜ now (mem .exit) ≡ plainOf 2 (now (sites .entry)) (now (plain .entry)) (now (mem .entry)) ⌝ }
+    ensures { λ _. ⌜ now (mem .exit) ≡ plainOf (width house) (now (sites .entry)) (now (plain .entry)) (now (mem .entry)) ⌝ }
 {
     let all = &sites[..];
     let mut k: usize = Table::ENTRIES;
     while 0 < k {
         k -= 1;
-        lay(mem, all[k] as usize, plain[Entry::ROOM * k], plain[Entry::ROOM * k + 1]);
+        lay(
+            mem,
+            all[k] as usize,
+            plain[Entry::ROOM * k],
+            plain[Entry::ROOM * k + 1],
+        );
     }
 }

@@ -3,6 +3,7 @@ use memory::Place;
 use target::Process;
 ghost use mathlib.Core.Path.{_≡_};
 ghost use lib.ListN.{length, take, drop};
+ghost use Rattle.memory.specs.Head.{house, width};
 ghost use Rattle.memory.specs.Place.{placeOf, isSite, stretchOf};
 
 // Where the n bytes from an address lie.
@@ -25,7 +26,7 @@ pub fn place_of(base: u32, size: u32, address: u32, n: u8) -> Place
 
 // Whether a trap can stand at an address: it is even, and both bytes there lie in the window.
 pub fn is_site(base: u32, size: usize, address: u32) -> bool
-    ensures { λ r. ⌜ r ≡ isSite 2 base size address ⌝ }
+    ensures { λ r. ⌜ r ≡ isSite (width house) base size address ⌝ }
 {
     if address % 2 != 0 {
         return false;

@@ -6,6 +6,7 @@ ghost use mathlib.Core.Path.{_≡_};
 ghost use mathlib.Core.List.{_∷_, []};
 ghost use Prim.Native.Nat.{_≤_, min};
 ghost use lib.ListN.{length};
+ghost use Rattle.memory.specs.Head.{house, width};
 ghost use Rattle.memory.specs.Read.{touches as touchesOf, meets as meetsOf, putFrom, laidFrom, laidAll};
 ghost use Rattle.memory.specs.Write.{partRead};
 
@@ -14,7 +15,7 @@ const MOST: usize = 9;
 
 // Whether the trap at a site lies over one of the n bytes from an offset on. An odd site lies nowhere.
 fn touches(site: u32, at: u32, n: u8) -> bool
-    ensures { λ r. ⌜ r ≡ touchesOf 2 site at n ⌝ }
+    ensures { λ r. ⌜ r ≡ touchesOf (width house) site at n ⌝ }
 {
     if site % 2 != 0 {
         return false;
@@ -31,7 +32,7 @@ fn touches(site: u32, at: u32, n: u8) -> bool
 
 // Whether the n bytes from an offset on meet a site: one look at each slot.
 fn meets(sites: &[u32; Table::ENTRIES], at: u32, n: u8) -> bool
-    ensures { λ r. ⌜ r ≡ meetsOf 2 (now (sites .entry)) at n ⌝ }
+    ensures { λ r. ⌜ r ≡ meetsOf (width house) (now (sites .entry)) at n ⌝ }
 {
     let all = &sites[..];
     let mut k: usize = 0;
@@ -80,13 +81,20 @@ fn lay_all(
     plain: &[u8; Table::PLAIN],
 )
     requires { ⌜ n ≤ length (now out) ⌝ }
-    ensures { λ _. ⌜ now (out .exit) ≡ laidAll 2 (now (sites .entry)) (now (plain .entry)) at n (now (out .entry)) ⌝ }
+    ensures { λ _. ⌜ now (out .exit) ≡ laidAll (width house) (now (sites .entry)) (now (plain .entry)) at n (now (out .entry)) ⌝ }
 {
     let all = &sites[..];
     let mut k: usize = Table::ENTRIES;
     while 0 < k {
         k -= 1;
-        lay(out, at, n, all[k], plain[Entry::ROOM * k], plain[Entry::ROOM * k + 1]);
+        lay(
+            out,
+            at,
+            n,
+            all[k],
+            plain[Entry::ROOM * k],
+            plain[Entry::ROOM * k + 1],
+        );
     }
 }
 
@@ -107,7 +115,7 @@ pub fn read(
     plain: &[u8; Table::PLAIN],
     at: u32,
 ) -> [u8; 9]
-    ensures { λ r. ⌜ r ≡ partRead 2 (now (sites .entry)) (now (plain .entry)) (now (part .entry)) at 9 ⌝ }
+    ensures { λ r. ⌜ r ≡ partRead (width house) (now (sites .entry)) (now (plain .entry)) (now (part .entry)) at 9 ⌝ }
 {
     let mut bytes: [u8; MOST] = [0; MOST];
     common::copy(&mut bytes[..], part);

@@ -138,7 +138,7 @@ module _ (head : Head) (t : Target) (mem : List ℕ) where
         high = search parts depth 9;
         trap = λ j l.
             let all : every (width head) (λ i. eqb (getD mem (e .site - t .base + i) 0) (getD (head .trap) i 0))
-                ≡ true = search parts depth 9 in
+            ≡ true = search parts depth 9 in
             eqb-true _ _ (every-at (width head) _ all j l);
         whole = search parts depth 9;
         formed = search parts depth 9;

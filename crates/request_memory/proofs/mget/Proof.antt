@@ -125,7 +125,7 @@ returns-3 c words f =
     (got-window (world-at z words) _ _ (c .rmget2 .ensures) (a .addr) (a .n)
     (rw (← f .sites, ← f .plain)
     (p .read .ensures
-    ∙ read-window (now (a .mem)) (a .t .base) (a .addr) (a .n) _ (a .s .sites) (a .s .plain) _
+    ∙ read-window (now (a .mem)) (a .t .base) (a .addr) (a .n) _ 2 (a .s .sites) (a .s .plain) _
     (place-in z Window (e .enum-told2 .given .1)) (stretch-is z))))
 
 returns-4 : tie.Need-returns-4
