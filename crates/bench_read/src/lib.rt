@@ -48,7 +48,8 @@ pub extern "C" fn sanirvoq_bench_read_by_bytes(
     at: u32,
     out: &mut [u8],
 )
-    ensures { λ _. ⌜ (let r = partRead (width house) (now (sites .entry)) (now (plain .entry)) (now (part .entry)) at 9 in
+    ensures { λ _. ⌜ (let r = partRead (width house) (now (sites .entry)) (now (plain .entry))
+        (now (part .entry)) at 9 in
         now (out .exit) ≡ paste (now (out .entry)) 0 r (min (length (now (out .entry))) (length r))) ⌝ }
 {
     let bytes = by_bytes(part, sites, plain, at);
@@ -64,7 +65,8 @@ pub extern "C" fn sanirvoq_bench_read(
     at: u32,
     out: &mut [u8],
 )
-    ensures { λ _. ⌜ (let r = partRead (width house) (now (sites .entry)) (now (plain .entry)) (now (part .entry)) at 9 in
+    ensures { λ _. ⌜ (let r = partRead (width house) (now (sites .entry)) (now (plain .entry))
+        (now (part .entry)) at 9 in
         now (out .exit) ≡ paste (now (out .entry)) 0 r (min (length (now (out .entry))) (length r))) ⌝ }
 {
     let bytes = memory_read::read(part, sites, plain, at);

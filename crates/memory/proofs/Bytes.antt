@@ -46,7 +46,8 @@ abbrev pub byteOver : ℕ → List ℕ → List ℕ → ℕ → ℕ → ℕ
 byteOver w sites plain i old = cond (covered w sites i) (getD plain (slotOf w sites i * plainRoom + i % w) 0) old
 
 module _ (w : ℕ) (sites plain : List ℕ) (i old : ℕ) where
-  pub byte-under : covered w sites i ≡ true → byteOver w sites plain i old ≡ getD plain (slotOf w sites i * plainRoom + i % w) 0
+  pub byte-under : covered w sites i ≡ true → byteOver w sites plain i old
+      ≡ getD plain (slotOf w sites i * plainRoom + i % w) 0
   byte-under e = rw e
 
   pub byte-bare : covered w sites i ≡ false → byteOver w sites plain i old ≡ old
@@ -75,7 +76,8 @@ module _ (w : ℕ) (sites plain mem : List ℕ) where
 
   -- a list that has the slot's byte under each trap and memory's elsewhere is plain memory
   pub plain-is : (l : List ℕ) → length l ≡ length mem
-      → ((i : ℕ) → i < length mem → covered w sites i ≡ true → getD l i 0 ≡ getD plain (slotOf w sites i * plainRoom + i % w) 0)
+      → ((i : ℕ) → i < length mem → covered w sites i ≡ true → getD l i 0
+      ≡ getD plain (slotOf w sites i * plainRoom + i % w) 0)
       → ((i : ℕ) → i < length mem → covered w sites i ≡ false → getD l i 0 ≡ getD mem i 0)
       → plainOf w sites plain mem ≡ l
   unfolding plainOf plainAt

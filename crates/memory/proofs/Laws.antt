@@ -134,12 +134,14 @@ module _ (w : ℕ) (sites plain : List ℕ) (at : ℕ) where
         true-or-false (sym e ∙ slot-covers w sites (at + j) (omega arith)))
 
     pub plain-stored : 0 < w → w ≤ plainRoom → covered w sites (at + j) ≡ true
-        → set (plainAfter w sites plain at (take j bytes)) (slotOf w sites (at + j) * plainRoom + (at + j) % w) (getD bytes j 0)
+        → set (plainAfter w sites plain at (take j bytes)) (slotOf w sites (at + j) * plainRoom + (at + j) % w)
+        (getD bytes j 0)
         ≡ plainAfter w sites plain at (take (j + 1) bytes)
     unfolding plainAfter
     plain-stored pos few e =
         store-at (length plain) at (afterAt w sites plain at) _ _ _ each-plain bytes j h
-        (slotOf w sites (at + j) * plainRoom + (at + j) % w) (after-at w pos few sites (at + j) e plain at (take (j + 1) bytes))
+        (slotOf w sites (at + j) * plainRoom + (at + j) % w) (after-at w pos few sites (at + j) e plain at
+        (take (j + 1) bytes))
         (λ p l t q. place-of-offset w pos few sites (at + j) e p t q)
 
 -- ---- one slot laid over the others
@@ -156,10 +158,12 @@ module _ (w s : ℕ) (sites plain : List ℕ) (i old : ℕ) where
 
       by : (b : Bool) →
           cond (ltb (cond b 0 (suc n)) (suc (length sites))) (getD plain (cond b 0 (suc n) * plainRoom + i % w) 0) old
-          ≡ cond b (getD plain (i % w) 0) (cond (ltb n (length sites)) (getD (drop plainRoom plain) (n * plainRoom + i % w) 0) old)
+          ≡ cond b (getD plain (i % w) 0) (cond (ltb n (length sites)) (getD (drop plainRoom plain)
+          (n * plainRoom + i % w) 0) old)
       by true = rw (lt-ltb 0 (suc (length sites)) (omega arith)) (ap (λ (x : ℕ). getD plain x 0) (omega arith))
       by false =
-          let e : plainRoom + (n * plainRoom + i % w) ≡ suc n * plainRoom + i % w = omega (arith, suc-mul n plainRoom) in
+          let e : plainRoom + (n * plainRoom + i % w)
+          ≡ suc n * plainRoom + i % w = omega (arith, suc-mul n plainRoom) in
           rw (leb·suc-suc (suc n) (length sites), getD-drop plainRoom plain (n * plainRoom + i % w) 0, e)
 
 plain-head : (w s : ℕ) (sites plain mem : List ℕ) (i : ℕ) → plainAt w (s ∷ sites) plain mem i
@@ -200,7 +204,8 @@ module _ (t mem : List ℕ) (pos : 0 < length t) where
   -- the same of slot k and those after it
   pub plain-from : (sites plain : List ℕ) (k : ℕ) → k < length sites
       → ((r : ℕ) → r < length t → getD t r 0 ≡ getD plain (k * plainRoom + r) 0)
-      → laidOver t (getD sites k 0 ∷ []) (plainOf (length t) (drop (k + 1) sites) (drop ((k + 1) * plainRoom) plain) mem)
+      → laidOver t (getD sites k 0 ∷ []) (plainOf (length t) (drop (k + 1) sites)
+      (drop ((k + 1) * plainRoom) plain) mem)
       ≡ plainOf (length t) (drop k sites) (drop (k * plainRoom) plain) mem
   plain-from sites plain k h e =
       let n : (k + 1) * plainRoom ≡ k * plainRoom + plainRoom = omega arith in

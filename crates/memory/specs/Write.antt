@@ -23,7 +23,8 @@ partRead w sites plain part at m =
     tab m
     (λ j.
     cond (ltb j (length part))
-    (cond (covered w sites (at + j)) (getD plain (slotOf w sites (at + j) * plainRoom + (at + j) % w) 0) (getD part j 0))
+    (cond (covered w sites (at + j)) (getD plain (slotOf w sites (at + j) * plainRoom + (at + j) % w) 0)
+    (getD part j 0))
     0)
 
 -- what offset i holds once bytes are written from offset at on, where it held old

@@ -73,7 +73,8 @@ pub fn write(
     bytes: &[u8],
 )
     requires { ⌜ at + length (now bytes) ≤ length (now mem) ⌝ }
-    ensures { λ _. ⌜ now (mem .exit) ≡ memAfter (width house) (now (sites .entry)) (now (mem .entry)) at (now (bytes .entry)) ⌝ }
+    ensures { λ _. ⌜ now (mem .exit) ≡ memAfter (width house) (now (sites .entry)) (now (mem .entry)) at
+        (now (bytes .entry)) ⌝ }
     ensures { λ _. ⌜ now (plain .exit)
         ≡ plainAfter (width house) (now (sites .entry)) (now (plain .entry)) at (now (bytes .entry)) ⌝ }
 {
@@ -110,7 +111,8 @@ pub fn lay(mem: &mut [u8], site: usize, b0: u8, b1: u8)
 
 // Puts the plain bytes back at every site, the last slot first, so that the first slot of a site decides.
 pub fn restore(mem: &mut [u8], sites: &[u32; Table::ENTRIES], plain: &[u8; Table::PLAIN])
-    ensures { λ _. ⌜ now (mem .exit) ≡ plainOf (width house) (now (sites .entry)) (now (plain .entry)) (now (mem .entry)) ⌝ }
+    ensures { λ _. ⌜ now (mem .exit) ≡ plainOf (width house) (now (sites .entry)) (now (plain .entry))
+        (now (mem .entry)) ⌝ }
 {
     let all = &sites[..];
     let mut k: usize = Table::ENTRIES;

@@ -23,7 +23,8 @@ use Rattle.memory_laws.proofs.Planted.{Planted, planted-at, planted-by}
 -- the plain bytes of every slot but k are as they were
 abbrev pub KeptBut : ℕ → List ℕ → ℕ → List ℕ → List ℕ → Type 0
 KeptBut w sites k plain plain′ =
-    (j r : ℕ) → j < length sites → r < w → (j ≡ k → ⊥) → getD plain′ (j * plainRoom + r) 0 ≡ getD plain (j * plainRoom + r) 0
+    (j r : ℕ) → j < length sites → r < w → (j ≡ k → ⊥) → getD plain′ (j * plainRoom + r) 0
+    ≡ getD plain (j * plainRoom + r) 0
 
 -- an offset that has the slot that it had, which is not k, has the plain byte that it had
 kept-at : (w : ℕ) (sites plain plain′ mem : List ℕ) (k z i : ℕ) → 0 < w → KeptBut w sites k plain plain′
@@ -122,7 +123,8 @@ module _ (w : ℕ) (sites mem b : List ℕ) (k z : ℕ) (wide : length b ≡ w) 
   same-byte i h = rw wide at (laid-away b s mem i h)
 
   -- removing leaves plain memory as it was
-  pub removed-plain : (plain plain′ : List ℕ) → 0 < w → ((r : ℕ) → r < w → getD b r 0 ≡ getD plain (k * plainRoom + r) 0)
+  pub removed-plain : (plain plain′ : List ℕ) → 0 < w → ((r : ℕ) → r < w → getD b r 0
+      ≡ getD plain (k * plainRoom + r) 0)
       → KeptBut w sites k plain plain′
       → plainOf w (set sites k z) plain′ (laidOver b (getD sites k 0 ∷ []) mem) ≡ plainOf w sites plain mem
   removed-plain plain plain′ pos bytes kept =

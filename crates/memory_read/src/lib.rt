@@ -81,7 +81,8 @@ fn lay_all(
     plain: &[u8; Table::PLAIN],
 )
     requires { ⌜ n ≤ length (now out) ⌝ }
-    ensures { λ _. ⌜ now (out .exit) ≡ laidAll (width house) (now (sites .entry)) (now (plain .entry)) at n (now (out .entry)) ⌝ }
+    ensures { λ _. ⌜ now (out .exit) ≡ laidAll (width house) (now (sites .entry)) (now (plain .entry)) at n
+        (now (out .entry)) ⌝ }
 {
     let all = &sites[..];
     let mut k: usize = Table::ENTRIES;

@@ -128,7 +128,8 @@ module _ (w : World) (reply : List ℕ) where
     unfolding repliedWith
     answers l h = rw (e, h)
 
-    pub got-window : got ≡ plainRead (width house) (sites (w .target)) (plains (w .target)) (w .mem) (addr - w .target .base) n 9
+    pub got-window : got ≡ plainRead (width house) (sites (w .target)) (plains (w .target)) (w .mem)
+        (addr - w .target .base) n 9
         → outcome 0 Nothing w reply ≡ gotFrom house Window w addr n
     unfolding gotFrom
     got-window h = answers _ h

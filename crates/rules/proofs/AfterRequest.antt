@@ -60,7 +60,8 @@ module _ {head : Head} (s : Setup) (b : Book) (t : Target) (mem regs : List ℕ)
 
   -- into the window goes what the book writes
   after-put : (addr n : ℕ) (d : Data4) → 0 < n → placeOf (t .base) (t .size) addr n ≡ Window
-      → let o = windowWritten head w addr (take n (bytes4 d)) in Follows head s (bookWrite s b addr n d) (o .target) (o .mem)
+      → let o = windowWritten head w addr (take n (bytes4 d)) in Follows head s (bookWrite s b addr n d) (o .target)
+      (o .mem)
   unfolding bookWrite inWindow intoWindow
   after-put addr n d h p =
       rw (lt-ltb 0 n h, same-place s b t mem a addr n ∙ p, ap (λ (k : ℕ). addr - k) (sym (v .base)))

@@ -41,7 +41,8 @@ module _ {head : Head} (s : Setup) (b : Book) (t : Target) (mem regs : List ℕ)
 
   -- a process Stopped in the record and in the book
   now-stopped : (pid : ℕ) (block : List ℕ) → indexOf t pid < t .count
-      → let o = stopWith w (indexOf t pid) block in Follows head s (withStopped b (pid ∷ b .stopped)) (o .target) (o .mem)
+      → let o = stopWith w (indexOf t pid) block in Follows head s (withStopped b (pid ∷ b .stopped)) (o .target)
+      (o .mem)
   unfolding stopWith
   now-stopped pid block h =
       move-named s b t mem v (a .good) pid h stopped 0 (pid ∷ b .stopped) (sym (among-here pid (b .stopped)))
@@ -63,7 +64,8 @@ pub after-step : {head : Head} (s : Setup) (b : Book) (t : Target) (mem : List �
     Follows head s (fed s b e (o .number) (o .answer) (o .reply)) (o .after .target) (o .after .mem)
 unfolding fed refused answered restart repliedWith
 after-step {head} s b t mem a =
-    by-step t mem (λ e o. Follows head s (fed s b e (o .number) (o .answer) (o .reply)) (o .after .target) (o .after .mem))
+    by-step t mem (λ e o. Follows head s (fed s b e (o .number) (o .answer) (o .reply)) (o .after .target)
+    (o .after .mem))
     (λ e n h three. rw (unfed s b e n (bufferOf e) h) (a .follows))
     (λ regs bytes reply o x. after-served s b t mem regs a x)
     (λ e x o h. after-heard s b t mem (regsOf e) a h)

@@ -118,16 +118,19 @@ pub never-three : {head : Head} (t : Target) (mem : List ℕ) (e : Step) → Goo
 never-three t mem e g = fine-step t mem e g .notThree
 
 -- an accepted setup makes a good record
-good-taken : {head : Head} → Lawful head → {base size : ℕ} {pids addresses : List ℕ} {count : ℕ} {mem regs : List ℕ} {o : Outcome}
+good-taken : {head : Head} → Lawful head
+    → {base size : ℕ} {pids addresses : List ℕ} {count : ℕ} {mem regs : List ℕ} {o : Outcome}
     → SetUp base size pids addresses count mem regs o → o .number ≡ 0 → Good head (o .after .target) mem
 unfolding setupTarget answered
 good-taken law (taken e f z) n =
     good-of _ _ (record { lawful = law; window = e; processes = setup-parts _ _ _ f; table = fresh-parts law _ _ _ z })
 good-taken law (emptied n h) z = absurd (eqb-false n 0 h z)
 
-pub good-setup : (head : Head) → Lawful head → (s : Setup) → setupBy s .number ≡ 0 → Good head (setupBy s .after .target) (s .mem)
+pub good-setup : (head : Head) → Lawful head → (s : Setup) → setupBy s .number ≡ 0
+    → Good head (setupBy s .after .target) (s .mem)
 unfolding setupBy
-good-setup head law s = good-taken law (set-up (s .base) (s .size) (s .pids) (s .addresses) (s .count) (s .mem) (s .regs))
+good-setup head law s = good-taken law (set-up (s .base) (s .size) (s .pids) (s .addresses) (s .count) (s .mem)
+    (s .regs))
 
 -- an outside change where no trap lies leaves a record good
 pub good-change : {head : Head} (t : Target) (mem : List ℕ) (i byte : ℕ) → Good head t mem

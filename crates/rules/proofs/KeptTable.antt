@@ -115,7 +115,8 @@ module _ {head : Head} (t : Target) (mem : List ℕ) (g : Good head t mem) where
   -- a breakpoint is removed, its plain bytes put back
   pub good-freed : (k : ℕ) → Used t k
       → Good head (withEntries t (set (t .table .entries) k freshEntry))
-      (laidOver (take (width head) (entryAt (t .table .entries) k .plain)) ((entryAt (t .table .entries) k .site - t .base) ∷ []) mem)
+      (laidOver (take (width head) (entryAt (t .table .entries) k .plain)) ((entryAt
+      (t .table .entries) k .site - t .base) ∷ []) mem)
   unfolding withEntries siteOf isFree heldOf
   good-freed k (h, u) = good-table t mem g _ _ (record {
     eight = length-set es k freshEntry ∙ old .eight;
@@ -125,7 +126,12 @@ module _ {head : Head} (t : Target) (mem : List ℕ) (g : Good head t mem) where
         (λ e. true-or-false (sym e)) (λ e. true-or-false (sym e)) (λ e. true-or-false (sym e));
     planted = rw (sites-set (t .base) es k freshEntry) (rw (slot-used t mem g k (h, u)) at
         (removed-planted (width head) (sites t) mem (take (width head) (entryAt es k .plain)) k freeSite
-        (length-take-le (width head) (entryAt es k .plain) (omega (arith, old .entry k h .plain, width-fits (g .lawful))))
+        (length-take-le (width head) (entryAt es k .plain) (omega (
+          arith,
+          old .entry k h .plain,
+          width-fits
+              (g .lawful),
+        )))
         (omega (arith, eight-sites t mem g))
         (λ j l. slot-only t mem g j k (omega (arith, eight-sites t mem g)) (h, u)) (width-free (g .lawful))
         (head .trap) refl (old .planted)));
@@ -136,14 +142,16 @@ module _ {head : Head} (t : Target) (mem : List ℕ) (g : Good head t mem) where
   -- ---- bytes written to the window
 
   pub good-written : (at : ℕ) (bytes : List ℕ)
-      → Good head (withEntries t (withPlains (t .table .entries) (plainAfter (width head) (sites t) (plains t) at bytes)))
+      → Good head (withEntries t (withPlains (t .table .entries) (plainAfter (width head) (sites t)
+      (plains t) at bytes)))
       (memAfter (width head) (sites t) mem at bytes)
   unfolding withEntries heldOf
   good-written at bytes = good-table t mem g _ _ (record {
     eight = length-with es _ ∙ old .eight;
     entry = λ k h.
         let b : List ℕ = plainAfter (width head) (sites t) (plains t) at bytes in
-        let n : length b ≡ maxPlain = length-plain-after (width head) (sites t) (plains t) at bytes ∙ all-plains t mem g in
+        let n : length b ≡ maxPlain = length-plain-after (width head) (sites t) (plains t) at bytes
+        ∙ all-plains t mem g in
         let o = old .entry k h in
         rw (with-at es b k (omega (arith, old .eight)))
         (record { plain = simp (length-take, length-drop) (omega arith); id = o .id });

@@ -46,7 +46,8 @@ use Rattle.rules.proofs.Breakpoints.{member-place, place-member}
 pub same-covered : {head : Head} (s : Setup) (b : Book) (t : Target) (mem : List ℕ) → Agree head s b t mem → (i : ℕ)
     → covered (width head) (sites t) i ≡ covered (width head) (sitesBy s b) i
 unfolding sitesBy dressed
-same-covered {head} s b t mem a i = same-test (covered (width head) (sites t) i) (covered (width head) (sitesBy s b) i) onto back
+same-covered {head} s b t mem a i = same-test (covered (width head) (sites t) i) (covered (width head)
+    (sitesBy s b) i) onto back
   where
     offset : Breakpoint → ℕ
     offset x = x .site - s .base
@@ -69,7 +70,8 @@ same-covered {head} s b t mem a i = same-test (covered (width head) (sites t) i)
 
     back : covered (width head) (sitesBy s b) i ≡ true → covered (width head) (sites t) i ≡ true
     back e =
-        let m = place-member offset (b .breakpoints) (slotOf (width head) (sitesBy s b) i) (slot-below (width head) (sitesBy s b) i e) in
+        let m = place-member offset (b .breakpoints) (slotOf (width head) (sitesBy s b) i) (slot-below (width head)
+        (sitesBy s b) i e) in
         let h = a .follows .breakpoints .from (m .0) (m .1) in
         covered-by (width head) (sites t) i (h .place) (omega (arith, h .used .0, eight-sites t mem (a .good)))
         (slot (h .place) (h .used) ∙ ap offset (h .same) ∙ sym (m .2) ∙ slot-site (width head) (sitesBy s b) i e)
@@ -119,7 +121,8 @@ module _ {head : Head} (t : Target) (mem : List ℕ) (good : Good head t mem)
   -- every entry has its room for plain bytes
   wide : (j : ℕ) → j < length (set es k e) → length (entryAt (set es k e) j .plain) ≡ plainRoom
   wide j h =
-      at-set es k e noEntry j (λ q. omega (arith, size, length-set es k e)) (λ x. length (x .plain) ≡ plainRoom) (λ q. room)
+      at-set es k e noEntry j (λ q. omega (arith, size, length-set es k e)) (λ x. length (x .plain)
+      ≡ plainRoom) (λ q. room)
       (λ n. good .shaped .entry j (omega (arith, size)) .plain)
 
   -- those of the entry
@@ -142,7 +145,8 @@ module _ {head : Head} (t : Target) (mem : List ℕ) (good : Good head t mem) wh
   pub plain-removed : (k : ℕ) → Used t k
       → plainOf (width head) (sitesOf (t .base) (set (t .table .entries) k freshEntry))
       (plainsOf (set (t .table .entries) k freshEntry))
-      (laidOver (take (width head) (entryAt (t .table .entries) k .plain)) ((entryAt (t .table .entries) k .site - t .base) ∷ []) mem)
+      (laidOver (take (width head) (entryAt (t .table .entries) k .plain)) ((entryAt
+      (t .table .entries) k .site - t .base) ∷ []) mem)
       ≡ plainOf (width head) (sites t) (plains t) mem
   unfolding siteOf isFree
   plain-removed k u =
@@ -192,9 +196,11 @@ pub plain-overwritten : {head : Head} (t : Target) (mem : List ℕ) → Good hea
 plain-overwritten {head} t mem good at bytes =
     let after : List ℕ = plainAfter (width head) (sites t) (plains t) at bytes in
     let size : length after ≡ length (t .table .entries) * plainRoom =
-    length-plain-after (width head) (sites t) (plains t) at bytes ∙ all-plains t mem good ∙ rw (good .shaped .entries) in
+    length-plain-after (width head) (sites t) (plains t) at bytes ∙ all-plains t mem good
+    ∙ rw (good .shaped .entries) in
     rw (sites-with (t .base) (t .table .entries) after, plains-with (t .table .entries) after size)
-    (plain-written (width head) (sites t) (plains t) mem at bytes (width-some (good .lawful)) (width-fits (good .lawful))
+    (plain-written (width head) (sites t) (plains t) mem at bytes (width-some (good .lawful)) (width-fits
+    (good .lawful))
     (all-plains t mem good ∙ rw (eight-sites t mem good)))
 
 -- ---- with a fresh table plain memory is memory

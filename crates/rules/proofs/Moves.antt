@@ -61,7 +61,8 @@ module _ {head : Head} (s : Setup) (b : Book) (t : Target) (mem : List ℕ) (v :
 
   -- another table and memory, with what the book then has
   move-table : (u : Table) (mem′ plain : List ℕ) (l : List Breakpoint) (o : Option Pending)
-      → plainOf (width head) (sitesOf (t .base) (u .entries)) (plainsOf (u .entries)) mem′ ≡ plain → SameBreakpoints (u .entries) l
+      → plainOf (width head) (sitesOf (t .base) (u .entries)) (plainsOf (u .entries)) mem′ ≡ plain
+      → SameBreakpoints (u .entries) l
       → Drafted (u .draft) o
       → Follows head s (record { plain = plain; draft = o; breakpoints = l; stopped = b .stopped }) (withTable t u) mem′
   unfolding withTable
@@ -157,14 +158,16 @@ module _ {head : Head} (s : Setup) (b : Book) (t : Target) (mem : List ℕ) (v :
         move-table _ _ _ _ _ (plain-planted t mem good k (madeEntry head (world t mem regs) site) below free refl refl
         ∙ v .plain)
         (rw (v .draft e)
-        (listed-more es (b .breakpoints) k (madeEntry head (world t mem regs) site) (good .shaped .entries) below free refl
+        (listed-more es (b .breakpoints) k (madeEntry head (world t mem regs) site)
+        (good .shaped .entries) below free refl
         (v .breakpoints)))
         (drafted-none none)
 
     -- bytes written
     pub move-written : (addr : ℕ) (bytes : List ℕ)
         → Follows head s (withPlain b (overwritten (b .plain) (addr - t .base) bytes))
-        (windowWritten head (world t mem regs) addr bytes .target) (windowWritten head (world t mem regs) addr bytes .mem)
+        (windowWritten head (world t mem regs) addr bytes .target) (windowWritten head
+        (world t mem regs) addr bytes .mem)
     unfolding windowWritten withEntries withPlain
     move-written addr bytes =
         move-table _ _ _ _ _

@@ -75,7 +75,8 @@ pub data RequestCase (head : Head) (w : World) : Parsed → Answer → Message �
   -- bytes read: of the window the plain ones
   got : {addr n : ℕ} (d : Data9)
       → (0 < n → placeOf (w .target .base) (w .target .size) addr n ≡ Window
-      → d ≡ data9Of (plainRead (width head) (sites (w .target)) (plains (w .target)) (w .mem) (addr - w .target .base) n 9))
+      → d ≡ data9Of (plainRead (width head) (sites (w .target)) (plains (w .target)) (w .mem)
+      (addr - w .target .base) n 9))
       → RequestCase head w (Request (Tmget addr n)) Nothing (Rmget d) w
   -- written to the window
   put : {addr n : ℕ} {d : Data4} → 0 < n → placeOf (w .target .base) (w .target .size) addr n ≡ Window
@@ -107,7 +108,8 @@ pub data RequestCase (head : Head) (w : World) : Parsed → Answer → Message �
       → leb (length (w .target .table .entries)) (firstFree (w .target .table .entries)) ≡ false
       → RequestCase head w (Request (Tcondbreak val op)) Nothing Rcondbreak
       (withTarget w (withDraft (w .target) (begun val)))
-  plants : {val op : ℕ} → eqb op (code "n") ≡ false → eqb op (code "b") ≡ true → inHand w ≡ true → siteFree head w val ≡ true
+  plants : {val op : ℕ} → eqb op (code "n") ≡ false → eqb op (code "b") ≡ true → inHand w ≡ true
+      → siteFree head w val ≡ true
       → wellFormed (w .target .table .draft .elements) ≡ true
       → RequestCase head w (Request (Tcondbreak val op)) Nothing Rcondbreak (planted head w val)
   removes : {val op : ℕ} → eqb op (code "n") ≡ false → eqb op (code "b") ≡ false → eqb op (code "d") ≡ true
@@ -228,7 +230,8 @@ module _ (head : Head) (w : World) where
     got-from h Nowhere e = failing Inval
 
     put-to : (d : Data4) → 0 < n → (p : Place) → place ≡ p
-        → RequestOutcome w false (RequestCase head w (Request (Tmput addr n d))) (putTo head p w addr (take n (bytes4 d)))
+        → RequestOutcome w false (RequestCase head w (Request (Tmput addr n d))) (putTo head p w addr (take n
+        (bytes4 d)))
     unfolding putTo isMessage typeOf
     put-to d h Registers e =
         choose (RequestOutcome w false (RequestCase head w (Request (Tmput addr n d)))) (leb addr 3)
@@ -247,7 +250,8 @@ module _ (head : Head) (w : World) where
         (λ e. serving Nothing (Rmget _) w refl refl (got _ (λ h q. absurd (omega (arith, eqb-true n 0 e)))))
         (λ e. got-from (some e) place refl)
 
-    mput-of : (d : Data4) → RequestOutcome w false (RequestCase head w (Request (Tmput addr n d))) (mput head w addr n d)
+    mput-of : (d : Data4) → RequestOutcome w false (RequestCase head w (Request (Tmput addr n d)))
+        (mput head w addr n d)
     unfolding mput isMessage typeOf
     mput-of d =
         choose (RequestOutcome w false (RequestCase head w (Request (Tmput addr n d)))) (eqb n 0)

@@ -115,21 +115,25 @@ module _ {head : Head} (s : Setup) (b : Book) (t : Target) (mem : List ℕ) (a :
         same (i .0) (i .1),
         ap (λ (k : ℕ). addr - k) (sym (a .follows .base)),
         ← (a .follows .plain),
-        read-plain (width head) (sites t) (plains t) mem (addr - t .base) n 9 (omega (arith, end .0, end .1, a .good .sized)),
+        read-plain (width head) (sites t) (plains t) mem (addr - t .base) n 9
+            (omega (arith, end .0, end .1, a .good .sized)),
       )
 
   -- ---- what * reads
 
   -- four plain bytes, one by one
   four-bytes : (at : ℕ) → at + 4 ≤ length mem
-      → plainAt (width head) (sites t) (plains t) mem at ∷ plainAt (width head) (sites t) (plains t) mem (at + 1) ∷ plainAt (width head) (sites t)
+      → plainAt (width head) (sites t) (plains t) mem at ∷ plainAt (width head) (sites t) (plains t) mem
+      (at + 1) ∷ plainAt (width head) (sites t)
       (plains t) mem (at + 2)
       ∷ plainAt (width head) (sites t) (plains t) mem (at + 3) ∷ []
       ≡ bytesAt (plainOf (width head) (sites t) (plains t) mem) at 4 4
   unfolding plainRead tab
   four-bytes at h =
-      ap (λ (k : ℕ). plainAt (width head) (sites t) (plains t) mem k ∷ plainAt (width head) (sites t) (plains t) mem (at + 1)
-      ∷ plainAt (width head) (sites t) (plains t) mem (at + 2) ∷ plainAt (width head) (sites t) (plains t) mem (at + 3) ∷ [])
+      ap (λ (k : ℕ). plainAt (width head) (sites t) (plains t) mem k ∷ plainAt (width head) (sites t) (plains t) mem
+      (at + 1)
+      ∷ plainAt (width head) (sites t) (plains t) mem (at + 2) ∷ plainAt (width head) (sites t) (plains t) mem
+      (at + 3) ∷ [])
       (sym (add-zero at))
       ∙ read-plain (width head) (sites t) (plains t) mem at 4 4 h
 

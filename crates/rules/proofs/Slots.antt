@@ -113,7 +113,8 @@ unfolding withPlains plainsOf
 plains-with [] [] h = refl
 plains-with [] (b ∷ bs) h = absurd (omega arith)
 plains-with (e ∷ es) bytes h =
-    rw (plains-with es (drop plainRoom bytes) (omega (arith, length-drop plainRoom bytes))) (take-append-drop plainRoom bytes)
+    rw (plains-with es (drop plainRoom bytes) (omega (arith, length-drop plainRoom bytes)))
+    (take-append-drop plainRoom bytes)
 
 -- and the table with its own plain bytes put in is the table
 pub with-plains : (es : List Entry) → Roomy es → withPlains es (plainsOf es) ≡ es

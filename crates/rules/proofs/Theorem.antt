@@ -79,7 +79,8 @@ module _ (s : Setup) where
   agree-taken (taken e f z) good n = record { good = good; follows = follows-setup good }
   agree-taken (emptied n h) good z = absurd (eqb-false n 0 h z)
 
-  pub agree-setup : (head : Head) → Lawful head → setupBy s .number ≡ 0 → Agree head s (opened s) (setupBy s .after .target) (s .mem)
+  pub agree-setup : (head : Head) → Lawful head → setupBy s .number ≡ 0
+      → Agree head s (opened s) (setupBy s .after .target) (s .mem)
   unfolding setupBy
   agree-setup head law h =
       agree-taken (set-up (s .base) (s .size) (s .pids) (s .addresses) (s .count) (s .mem) (s .regs))

@@ -96,7 +96,8 @@ counted y (restartStep regs buffer) number reply = cond (eqb number accepted) no
 -- ---- the claim about a stub that says how many places it holds: at the end of the list it holds the count's. It is
 -- claimed of every list, so at every point of one.
 
-unfoldable pub HoldsCount : Head → Setup → (f : Stub) → (f .Own → ℕ) → Book → Count → f .Own → List ℕ → List Action → Type 0
+unfoldable pub HoldsCount : Head → Setup → (f : Stub) → (f .Own → ℕ) → Book → Count → f .Own → List ℕ
+    → List Action → Type 0
 HoldsCount h s f places b y x mem [] = places x ≡ y .held
 HoldsCount h s f places b y x mem (step e ∷ es) =
     let (x′, o) = f .act x mem e in

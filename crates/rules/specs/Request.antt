@@ -57,7 +57,8 @@ data9Of l = record {
 }
 
 unfoldable pub gotFrom : Head → Place → World → ℕ → ℕ → Outcome
-gotFrom h Registers w addr n = onBlock w (λ i. replied (Rmget (data9Of (bytesAt (w .regs) (blockSize * i + addr) n 9))) w)
+gotFrom h Registers w addr n = onBlock w (λ i. replied (Rmget (data9Of (bytesAt (w .regs)
+    (blockSize * i + addr) n 9))) w)
 gotFrom h Window w addr n =
     let t = w .target in
     replied (Rmget (data9Of (plainRead (width h) (sites t) (plains t) (w .mem) (addr - t .base) n 9))) w

@@ -91,7 +91,8 @@ plantsFirstOnly t =
 unfoldable pub plantsNothing : Acts
 plantsNothing t mem e =
     let o = stepOf house t (laidOver (house .trap) (sites t) mem) e in
-    outcome (o .number) (o .answer) (world (o .after .target) (plainMemory house (o .after)) (o .after .regs)) (o .reply)
+    outcome (o .number) (o .answer) (world (o .after .target) (plainMemory house (o .after)) (o .after .regs))
+    (o .reply)
 
 -- ---- for each other part of the claim, one that breaks it
 

@@ -194,7 +194,8 @@ returns-5 c =
           ∙ trap-pass _ _ _ (search-of k .find .ensures) _ _ (k .found .given .1) _ (b .before .before .if1 .left)
           (good s .shaped .entries) _ _ (b .before .word-at .ensures) (search-at b) (y .if2 .left) _ e _
           (s .pre .0 .0) _
-          (holding v) _ (pass-stored (s .args .t) _ _ _ (s .good .0) (y .if2 .left) ∙ ap (passOf house) e) (n .if3 .left),
+          (holding v) _ (pass-stored (s .args .t) _ _ _ (s .good .0) (y .if2 .left)
+          ∙ ap (passOf house) e) (n .if3 .left),
       keeps _ _ (c .keeping4 .ensures),
     )
 

@@ -37,7 +37,8 @@ tested f regs =
     sym (f .site-free .ensures (now (s .args .places)) _ regs
     (ready-findable (s .args .t) _ _ (s .good .0) (s .args .s) _ (s .pre)))
 
-free : (e : tie.Else2) (regs : List ℕ) → siteFree house (world-at (e .before) regs) (start (e .before) .args .val) ≡ true
+free : (e : tie.Else2) (regs : List ℕ) → siteFree house (world-at (e .before) regs) (start (e .before) .args .val)
+    ≡ true
 free e regs = tested (e .before) regs ∙ not-false _ (e .if2 .left)
 
 fail-requires : tie.Need-fail-requires

@@ -106,7 +106,8 @@ start p = replied p .before .before .before
 -- the window is the place that the address names
 to-window : (p : tie.After-write) → let a = start p .args in
     (words : List ℕ) → let w = world (viewOf (a .t) words) (now (a .mem)) (now (a .regs)) in
-    (x : Outcome) → x ≡ putTo house Window w (a .addr) (take (a .n) (bytes4 (a .d))) → x ≡ mput house w (a .addr) (a .n) (a .d)
+    (x : Outcome) → x ≡ putTo house Window w (a .addr) (take (a .n) (bytes4 (a .d))) → x
+    ≡ mput house w (a .addr) (a .n) (a .d)
 to-window p words x h =
     let e = p .before .before .before .before .before .before .before .before in
     let k = e .before .before in
@@ -186,7 +187,8 @@ returns-4 c words f =
     let s = start p in
     let a = s .args in
     to-window p words _
-    (put-stored (a .t) words (now (a .mem)) (now (a .regs)) (a .addr) _ _ _ _ _ _ (f .sites) (f .plain) (p .write .ensures .0) (p .write .ensures .1) (replied p .bytes-of .ensures)
+    (put-stored (a .t) words (now (a .mem)) (now (a .regs)) (a .addr) _ _ _ _ _ _ (f .sites) (f .plain)
+    (p .write .ensures .0) (p .write .ensures .1) (replied p .bytes-of .ensures)
     _ (c .of .ensures))
 
 returns-5 : tie.Need-returns-5

@@ -67,7 +67,12 @@ shared-slice-read-result c =
 returns-3 : tie.Need-returns-3
 returns-3 c =
     let o = c .before .before .before in
-    rw (← written-out _ _ _, answered-yes _ _ (o .before .is-site .ensures) (o .if1 .left), eq-eqb _ _ (c .before .if2 .left))
+    rw (
+      ← written-out _ _ _,
+      answered-yes _ _ (o .before .is-site .ensures) (o .if1 .left),
+      eq-eqb _ _
+          (c .before .if2 .left),
+    )
 
 pub site-fit-spec : {M : Type 1} → statement M
 site-fit-spec =
