@@ -4,13 +4,14 @@ use mathlib.Core.Path.{_≡_}
 use Prim.Native.Nat.{ℕ, _%_, _≤_}
 use mathlib.Core.List.{List, [], _∷_}
 use lib.ListN.{length}
-use Rattle.common.specs.Bytes.{ofLowFirst}
+use Rattle.common.specs.Bytes.{ofLowFirst, lowFirst}
 use Rattle.target.specs.Limits.{plainRoom}
 
--- the bytes of the trap, and the value of a word's bytes, both as they stand in memory
+-- the bytes of the trap, the value of a word's bytes, and the bytes of a word's value, all as they stand in memory
 pub record Head : Type 0 where
   pub trap : List ℕ
   pub word : List ℕ → ℕ
+  pub bytes : ℕ → List ℕ
 
 -- how many bytes the trap has
 abbrev pub width : Head → ℕ
@@ -23,4 +24,4 @@ pub record Lawful (h : Head) : Type 0 where
 
 -- 01, "Trap": "the halfword 0x9002 (c.ebreak), in memory the bytes 02 90"; words are "low-order first"
 abbrev pub house : Head
-house = record { trap = 0x02 ∷ 0x90 ∷ []; word = ofLowFirst }
+house = record { trap = 0x02 ∷ 0x90 ∷ []; word = ofLowFirst; bytes = lowFirst 4 }

@@ -24,7 +24,7 @@ use Rattle.rules.proofs.Outcomes.{EventCase, caught, released, yielded,
 use Rattle.rules.proofs.AfterRequest.{after-served}
 
 -- a step that is refused by its number leaves the book
-unfed : (s : Setup) (b : Book) (e : Step) (n : ℕ) (reply : List ℕ) → eqb n 0 ≡ false → fed s b e n Nothing reply ≡ b
+unfed : (s : Setup) (b : Book) (e : Step) (n : ℕ) (reply : List ℕ) → eqb n 0 ≡ false → fed head s b e n Nothing reply ≡ b
 unfolding fed isAccepted
 unfed s b (request r bytes buffer) n reply h = rw h
 unfed s b (trapEvent r pid block) n reply h = rw h
@@ -50,7 +50,7 @@ module _ {head : Head} (s : Setup) (b : Book) (t : Target) (mem regs : List ℕ)
 
   -- an accepted event
   after-heard : {e : Step} {x : Answer} {o : World} → EventCase head w e x o
-      → Follows head s (fed s b e 0 x []) (o .target) (o .mem)
+      → Follows head s (fed head s b e 0 x []) (o .target) (o .mem)
   unfolding fed bookAnswer withStopped passOf
   after-heard (caught {block = block} h k e) = now-stopped _ block h
   after-heard (released k e) = v
@@ -61,10 +61,10 @@ module _ {head : Head} (s : Setup) (b : Book) (t : Target) (mem regs : List ℕ)
 -- every step
 pub after-step : {head : Head} (s : Setup) (b : Book) (t : Target) (mem : List ℕ) → Agree head s b t mem → (e : Step)
     → let o = stepOf head t mem e in
-    Follows head s (fed s b e (o .number) (o .answer) (o .reply)) (o .after .target) (o .after .mem)
+    Follows head s (fed head s b e (o .number) (o .answer) (o .reply)) (o .after .target) (o .after .mem)
 unfolding fed refused answered restart repliedWith
 after-step {head} s b t mem a =
-    by-step t mem (λ e o. Follows head s (fed s b e (o .number) (o .answer) (o .reply)) (o .after .target)
+    by-step t mem (λ e o. Follows head s (fed head s b e (o .number) (o .answer) (o .reply)) (o .after .target)
     (o .after .mem))
     (λ e n h three. rw (unfed s b e n (bufferOf e) h) (a .follows))
     (λ regs bytes reply o x. after-served s b t mem regs a x)

@@ -14,7 +14,7 @@ use lib.ListN.{length, take}
 use Rattle.common.specs.First.{firstOf}
 use Rattle.common.specs.Keys.{among}
 use Rattle.common.specs.Numbers.{accepted, wrongSize, unlistedPid, stoppedProcess, noSite}
-use Rattle.condition.specs.Evaluate.{evalFrom}
+use Rattle.condition.specs.Evaluate.{evalFrom, wordOf}
 use Rattle.condition.specs.declared.Fetched.{Fetched}
 use Rattle.condition.specs.declared.Fetched.the-variants.{Word, Outside}
 use Rattle.memory.specs.Head.{Head, width}
@@ -35,11 +35,21 @@ use Rattle.wire.specs.declared.Message.the-variants.{Tmget, Tmput, Tproc, Tstat
 use Rattle.wire.specs.declared.Message.the-variants.{Rerr, Rmget, Rmput, Rproc, Rstatus, Rrnote, Rstop, Rstart}
 use Rattle.wire.specs.declared.Message.the-variants.{Rcondbreak}
 use Rattle.rules.specs.declared.Answer.{Answer}
-use Rattle.rules.specs.declared.Answer.the-variants.{Nothing, Stop, Pass, Yes, No}
+use Rattle.rules.specs.declared.Answer.the-variants.{Nothing, Stop, Pass, Yes, No, Text}
 use Rattle.rules.specs.Outcome.{passWith}
 use Rattle.rules.specs.Record.{pcOf, blockAt}
 use Rattle.rules.specs.Request.{data9Of}
 use Rattle.rules.specs.Step.{Setup, isAccepted, Step, request, trapEvent, scheduleEvent, stateEvent, restartStep}
+use Rattle.rules.specs.Step.{textStep}
+use Rattle.rules.specs.Text.{textKind, replyTo, isCompleted}
+use Rattle.rules.specs.declared.TextKind.{TextKind}
+use Rattle.rules.specs.declared.TextKind.the-variants.{ReadWord, WriteWord, ReadRegister, WriteRegister, Unlisted}
+use Rattle.text_packet.specs.Packet.{textOf}
+use Rattle.text_packet.specs.Write.{filledWith}
+use Rattle.text_packet.specs.declared.Packet.{Packet}
+use Rattle.text_packet_read.specs.Read.{readOf}
+use Rattle.text_packet_read.specs.declared.Reading.{Reading}
+use Rattle.text_packet_read.specs.declared.Reading.the-variants.{Accepted, NoPacket}
 
 -- ---- the book: "plain memory .., a draft (id, elements), breakpoints (id, site, elements) and Stopped processes"
 
@@ -160,15 +170,30 @@ bookAnswer b pid (Stop id) = withStopped b (pid ∷ b .stopped)
 bookAnswer b pid (Pass b0 b1 b2 b3) = b
 bookAnswer b pid Yes = withStopped b (pid ∷ b .stopped)
 bookAnswer b pid No = b
+bookAnswer b pid (Text error filled) = b
 
-unfoldable pub fed : Setup → Book → Step → ℕ → Answer → List ℕ → Book
-fed s b (request regs bytes buffer) number answer reply =
+-- 02, Three: "other I and D are accepted writes in demand 3"
+unfoldable pub bookWord : Head → Setup → Book → TextKind → Packet → Book
+bookWord h s b ReadWord p = b
+bookWord h s b WriteWord p = withPlain b (overwritten (b .plain) (p .third - s .base) (h .bytes (p .fourth)))
+bookWord h s b ReadRegister p = b
+bookWord h s b WriteRegister p = b
+bookWord h s b Unlisted p = b
+
+unfoldable pub bookText : Head → Setup → Book → Reading → Book
+bookText h s b (Accepted p) = bookWord h s b (textKind (p .letter)) p
+bookText h s b NoPacket = b
+
+unfoldable pub fed : Head → Setup → Book → Step → ℕ → Answer → List ℕ → Book
+fed h s b (request regs bytes buffer) number answer reply =
     cond (isAccepted number reply) (bookRequest s b (parseOf bytes)) b
-fed s b (trapEvent regs pid block) number answer reply = cond (eqb number accepted) (bookAnswer b pid answer) b
-fed s b (scheduleEvent regs pid block) number answer reply = cond (eqb number accepted) (bookAnswer b pid answer) b
-fed s b (stateEvent regs pid value) number answer reply = b
-fed s b (restartStep regs buffer) number answer reply =
+fed h s b (trapEvent regs pid block) number answer reply = cond (eqb number accepted) (bookAnswer b pid answer) b
+fed h s b (scheduleEvent regs pid block) number answer reply = cond (eqb number accepted) (bookAnswer b pid answer) b
+fed h s b (stateEvent regs pid value) number answer reply = b
+fed h s b (restartStep regs buffer) number answer reply =
     cond (eqb number accepted) (withStopped (withBreakpoints b []) []) b
+fed h s b (textStep regs bytes buffer) number answer reply =
+    cond (eqb number accepted && isCompleted answer) (bookText h s b (readOf bytes)) b
 
 -- ---- traps by the book
 
@@ -196,6 +221,17 @@ unfoldable pub fetchBy : Head → Setup → Book → ℕ → Fetched
 fetchBy h s b a =
     cond (leb (s .base) a && leb (a + 4) (s .base + s .size))
     (Word (h .word (bytesAt (b .plain) (a - s .base) 4 4))) Outside
+
+-- 02, Three: what i, d, I and D reply, where they are not refused: plain memory's word
+unfoldable pub wordReplyBy : Head → Setup → Book → Packet → List ℕ → List ℕ
+wordReplyBy h s b p buffer = filledWith (textOf (replyTo p 0 (wordOf (fetchBy h s b (p .third))))) buffer
+
+unfoldable pub isWord : TextKind → Bool
+isWord ReadWord = true
+isWord WriteWord = true
+isWord ReadRegister = false
+isWord WriteRegister = false
+isWord Unlisted = false
 
 -- Pass with plain memory's bytes at a site, as many as the trap has
 unfoldable pub passBy : Head → Setup → Book → ℕ → Answer

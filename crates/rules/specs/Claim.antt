@@ -17,9 +17,13 @@ use Rattle.target.specs.View.{Target}
 use Rattle.wire.specs.declared.Message.the-variants.{Tmget, Tstart}
 use Rattle.rules.specs.declared.Answer.{Answer}
 use Rattle.rules.specs.Outcome.{Outcome}
-use Rattle.rules.specs.Step.{Setup, setupBy, isAccepted, Step, request, trapEvent, restartStep, stepOf}
+use Rattle.rules.specs.Step.{Setup, setupBy, isAccepted, Step, request, trapEvent, restartStep, textStep, stepOf}
+use Rattle.rules.specs.Text.{textKind, isCompleted}
 use Rattle.rules.specs.Book.{Book, opened, withPlain, fed, inWindow, readBy, realBy, underTrap, trapBy}
-use Rattle.rules.specs.Book.{trapNumber, startBy}
+use Rattle.rules.specs.Book.{trapNumber, startBy, wordReplyBy, isWord}
+use Rattle.text_packet.specs.declared.Packet.{Packet}
+use Rattle.text_packet_read.specs.Read.{readOf}
+use Rattle.text_packet_read.specs.declared.Reading.the-variants.{Accepted}
 
 -- ---- a stub: the record that it makes of a setup, and what it does with a record, the memory that stands and a step
 
@@ -60,6 +64,7 @@ pub data Part : Type 0 where
   trapPart : Part
   startPart : Part
   restartPart : Part
+  textPart : Part
 
 unfoldable pub Says : Part → Head → Setup → Book → Step → Outcome → Shown → Type 0
 -- the number, the answer and the reply are those that the rules give
@@ -87,6 +92,12 @@ Says startPart h s b e r o =
 -- "every trap's plain bytes go back": an accepted restart leaves plain memory
 Says restartPart h s b e r o = (regs buffer : List ℕ) → e ≡ restartStep regs buffer → o .number ≡ accepted
     → o .mem ≡ b .plain
+-- 02, Three: "words answered by i, d, I, D are memory reads": a word that is answered is plain memory's as it stood before
+-- the step
+Says textPart h s b e r o =
+    (regs bytes buffer : List ℕ) (p : Packet) → e ≡ textStep regs bytes buffer → readOf bytes ≡ Accepted p
+    → isWord (textKind (p .letter)) ≡ true → o .number ≡ accepted → isCompleted (o .answer) ≡ true
+    → o .reply ≡ wordReplyBy h s b p buffer
 
 pub record Right (h : Head) (s : Setup) (b : Book) (e : Step) (r : Outcome) (o : Shown) : Type 0 where
   pub number : Says numberPart h s b e r o
@@ -98,6 +109,7 @@ pub record Right (h : Head) (s : Setup) (b : Book) (e : Step) (r : Outcome) (o :
   pub trap : Says trapPart h s b e r o
   pub start : Says startPart h s b e r o
   pub restart : Says restartPart h s b e r o
+  pub text : Says textPart h s b e r o
 
 -- ---- lists: a step with everything that is lent to it, or an outside change of one byte of memory, by its offset
 
@@ -113,7 +125,7 @@ Claim h s f b t x mem [] = mem ≡ realBy h s b
 Claim h s f b t x mem (step e ∷ es) =
     let r = stepOf h t (realBy h s b) e in
     let (x′, o) = f .act x mem e in
-    Right h s b e r o × Claim h s f (fed s b e (o .number) (o .answer) (o .reply)) (r .after .target) x′ (o .mem) es
+    Right h s b e r o × Claim h s f (fed h s b e (o .number) (o .answer) (o .reply)) (r .after .target) x′ (o .mem) es
 Claim h s f b t x mem (change i byte ∷ es) =
     underTrap h s b i ≡ false → Claim h s f (withPlain b (set (b .plain) i byte)) t x (set mem i byte) es
 

@@ -18,12 +18,18 @@ use Rattle.wire.specs.Message.{isMessage, bytesOf}
 use Rattle.wire.specs.declared.Message.{Message}
 use Rattle.wire_laws.specs.Claims.{Messages}
 use Rattle.wire_text.specs.declared.Reason.{Reason}
-use Rattle.rules.specs.declared.Answer.the-variants.{Nothing}
+use Rattle.rules.specs.declared.Answer.the-variants.{Nothing, Text}
 use Rattle.rules.specs.Outcome.{World, world, Outcome}
 use Rattle.rules.specs.Condition.{dropped}
 use Rattle.rules.specs.Request.{drops}
 use Rattle.rules.specs.Step.{Setup, setupBy, sized, requestOf, Step, regsOf, bufferOf, isRefused, stepOf}
-use Rattle.rules.specs.Step.{request, trapEvent, scheduleEvent, stateEvent, restartStep}
+use Rattle.rules.specs.Step.{request, trapEvent, scheduleEvent, stateEvent, restartStep, textStep}
+use Rattle.rules.specs.Text.{replyTo}
+use Rattle.text_packet.specs.Packet.{textOf}
+use Rattle.text_packet.specs.Write.{filledWith}
+use Rattle.text_packet.specs.declared.Packet.{Packet}
+use Rattle.text_packet_read.specs.Read.{readOf}
+use Rattle.text_packet_read.specs.declared.Reading.the-variants.{Accepted}
 use Rattle.rules.specs.Claim.{stubOf, rulesStub, Demand3}
 use Rattle.rules.specs.Places.{PlacesHeld, ruledPlaces, countingStub, ownPlaces, neverGivesBack, countsRefused}
 use Rattle.rules.specs.Worked.{workedSetup, after, workedRows}
@@ -57,6 +63,7 @@ isDropping (trapEvent regs pid block) = false
 isDropping (scheduleEvent regs pid block) = false
 isDropping (stateEvent regs pid value) = false
 isDropping (restartStep regs reply) = false
+isDropping (textStep regs bytes reply) = false
 
 -- what a refused step leaves: memory, register area and breakpoints always; with number 0 the whole world, but for
 -- the condition in hand where the step drops it; and with another number the reply buffer too
@@ -86,12 +93,24 @@ pub record NoReply (o : Outcome) : Type 0 where
   pub number : o .number ≡ accepted
   pub none : o .reply ≡ []
 
+-- 02, Three: a text step's reply is the text of one packet, with the PID and the letter of the request, at the front of
+-- the buffer, of which the rest stays
+pub record TextReply (bytes buffer : List ℕ) (o : Outcome) : Type 0 where
+  pub number : o .number ≡ accepted
+  pub asked : Packet
+  pub asks : readOf bytes ≡ Accepted asked
+  pub flag : ℕ
+  pub value : ℕ
+  pub text : o .reply ≡ filledWith (textOf (replyTo asked flag value)) buffer
+  pub answer : o .answer ≡ Text (cond (eqb flag 0) 0 1) (length (textOf (replyTo asked flag value)))
+
 unfoldable pub RightReply : Step → Outcome → Type 0
 RightReply (request regs bytes reply) o = Reply o
 RightReply (trapEvent regs pid block) o = NoReply o
 RightReply (scheduleEvent regs pid block) o = NoReply o
 RightReply (stateEvent regs pid value) o = NoReply o
 RightReply (restartStep regs reply) o = Reply o
+RightReply (textStep regs bytes reply) o = TextReply bytes reply o
 
 -- "A request that passes 2 and 3 always gets number 0": its number, for every input
 unfoldable pub requestNumber : Head → World → List ℕ → List ℕ → ℕ

@@ -12,7 +12,7 @@ use Rattle.wire.specs.Message.{bytesOf}
 use Rattle.memory.specs.Head.{Head, width}
 use Rattle.target.specs.View.{Target}
 use Rattle.rules.specs.declared.Answer.{Answer}
-use Rattle.rules.specs.declared.Answer.the-variants.{Nothing, Stop, Pass, Yes, No}
+use Rattle.rules.specs.declared.Answer.the-variants.{Nothing, Stop, Pass, Yes, No, Text}
 
 -- the record, memory and the register area
 pub record World : Type 0 where
@@ -64,6 +64,7 @@ answerBytes h (Stop id) = 1 ∷ id ∷ []
 answerBytes h (Pass b0 b1 b2 b3) = 2 ∷ take (width h) (b0 ∷ b1 ∷ b2 ∷ b3 ∷ [])
 answerBytes h Yes = 1 ∷ []
 answerBytes h No = 0 ∷ []
+answerBytes h (Text error filled) = error ∷ filled ∷ []
 
 -- what the program writes of a step: "It writes the number, then ten bytes for 1 and 5; 01 id or 02 and two bytes for
 -- 2; 00 or 01 for 3. A step whose number is not 0 writes its number only"; 02, Two: "The program writes 02 and the two

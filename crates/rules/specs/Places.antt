@@ -22,7 +22,7 @@ use Rattle.wire.specs.declared.Message.the-variants.{Rcondbreak}
 use Rattle.rules.specs.Outcome.{Outcome}
 use Rattle.rules.specs.Request.{drops}
 use Rattle.rules.specs.Step.{Setup, setupBy, isAccepted, Step, request, trapEvent, scheduleEvent, stateEvent}
-use Rattle.rules.specs.Step.{restartStep, stepOf}
+use Rattle.rules.specs.Step.{restartStep, textStep, stepOf}
 use Rattle.rules.specs.Book.{Book, opened, withPlain, fed, underTrap}
 use Rattle.rules.specs.Claim.{Shown, Stub, rulesStub, Action, step, change}
 
@@ -92,6 +92,7 @@ counted y (trapEvent regs pid block) number reply = y
 counted y (scheduleEvent regs pid block) number reply = y
 counted y (stateEvent regs pid value) number reply = y
 counted y (restartStep regs buffer) number reply = cond (eqb number accepted) noneHeld y
+counted y (textStep regs bytes buffer) number reply = y
 
 -- ---- the claim about a stub that says how many places it holds: at the end of the list it holds the count's. It is
 -- claimed of every list, so at every point of one.
@@ -101,7 +102,7 @@ unfoldable pub HoldsCount : Head → Setup → (f : Stub) → (f .Own → ℕ) �
 HoldsCount h s f places b y x mem [] = places x ≡ y .held
 HoldsCount h s f places b y x mem (step e ∷ es) =
     let (x′, o) = f .act x mem e in
-    HoldsCount h s f places (fed s b e (o .number) (o .answer) (o .reply)) (counted y e (o .number) (o .reply)) x′
+    HoldsCount h s f places (fed h s b e (o .number) (o .answer) (o .reply)) (counted y e (o .number) (o .reply)) x′
     (o .mem)
     es
 HoldsCount h s f places b y x mem (change i byte ∷ es) =
@@ -140,6 +141,7 @@ takes (trapEvent regs pid block) o = 0
 takes (scheduleEvent regs pid block) o = 0
 takes (stateEvent regs pid value) o = 0
 takes (restartStep regs buffer) o = 0
+takes (textStep regs bytes buffer) o = 0
 
 -- never gives a place back
 unfoldable pub neverGivesBack : ℕ → Step → Outcome → ℕ
@@ -152,6 +154,7 @@ isDropped (trapEvent regs pid block) o = false
 isDropped (scheduleEvent regs pid block) o = false
 isDropped (stateEvent regs pid value) o = false
 isDropped (restartStep regs buffer) o = false
+isDropped (textStep regs bytes buffer) o = false
 
 unfoldable pub countsRefused : ℕ → Step → Outcome → ℕ
 countsRefused n e o = heldOf (o .after .target .table) + cond (isDropped e o) 1 0

@@ -19,6 +19,7 @@ use Rattle.rules.specs.declared.Answer.the-variants.{Nothing}
 use Rattle.rules.specs.Outcome.{World, world, Outcome, outcome, answered, refused}
 use Rattle.rules.specs.Record.{ready}
 use Rattle.rules.specs.Request.{requestBy}
+use Rattle.rules.specs.Text.{textRequest, isCompleted}
 use Rattle.rules.specs.Event.{trap, schedule, state, restart}
 
 -- ---- Setup
@@ -90,6 +91,10 @@ stateOf h w pid value = checked h w true [] (state w pid value)
 unfoldable pub restartOf : Head → World → List ℕ → Outcome
 restartOf h w reply = checked h w (eqb (length reply) 10) reply (restart h w)
 
+-- 02, Three: "After 2 (for memory and registers) and 3"
+unfoldable pub textStepOf : Head → World → List ℕ → List ℕ → Outcome
+textStepOf h w bytes reply = checked h w true reply (textRequest h w bytes reply)
+
 -- ---- a step with everything that is lent to it but the memory
 
 pub data Step : Type 0 where
@@ -98,6 +103,7 @@ pub data Step : Type 0 where
   scheduleEvent : (regs : List ℕ) (pid : ℕ) (block : List ℕ) → Step
   stateEvent : (regs : List ℕ) (pid value : ℕ) → Step
   restartStep : (regs reply : List ℕ) → Step
+  textStep : (regs bytes reply : List ℕ) → Step
 
 -- the register area that it is lent
 unfoldable pub regsOf : Step → List ℕ
@@ -106,6 +112,7 @@ regsOf (trapEvent regs pid block) = regs
 regsOf (scheduleEvent regs pid block) = regs
 regsOf (stateEvent regs pid value) = regs
 regsOf (restartStep regs reply) = regs
+regsOf (textStep regs bytes reply) = regs
 
 -- the reply buffer, where it has one
 unfoldable pub bufferOf : Step → List ℕ
@@ -114,8 +121,10 @@ bufferOf (trapEvent regs pid block) = []
 bufferOf (scheduleEvent regs pid block) = []
 bufferOf (stateEvent regs pid value) = []
 bufferOf (restartStep regs reply) = reply
+bufferOf (textStep regs bytes reply) = reply
 
--- "A step is refused if its number is not 0 or a request got Rerr": a request is accepted
+-- "A step is refused if its number is not 0 or a request got Rerr", or, 02, Three, if it is "answered with ERRFLG -1": a
+-- request is accepted
 unfoldable pub isAccepted : ℕ → List ℕ → Bool
 isAccepted number reply = eqb number accepted && not (eqb (getD reply 0 0) 1)
 
@@ -125,6 +134,7 @@ isRefused (trapEvent regs pid block) o = not (eqb (o .number) accepted)
 isRefused (scheduleEvent regs pid block) o = not (eqb (o .number) accepted)
 isRefused (stateEvent regs pid value) o = not (eqb (o .number) accepted)
 isRefused (restartStep regs reply) o = not (eqb (o .number) accepted)
+isRefused (textStep regs bytes reply) o = not (eqb (o .number) accepted && isCompleted (o .answer))
 
 -- what a step does to a record and memory
 unfoldable pub stepOf : Head → Target → List ℕ → Step → Outcome
@@ -133,3 +143,4 @@ stepOf h t mem (trapEvent regs pid block) = trapOf h (world t mem regs) pid bloc
 stepOf h t mem (scheduleEvent regs pid block) = scheduleOf h (world t mem regs) pid block
 stepOf h t mem (stateEvent regs pid value) = stateOf h (world t mem regs) pid value
 stepOf h t mem (restartStep regs reply) = restartOf h (world t mem regs) reply
+stepOf h t mem (textStep regs bytes reply) = textStepOf h (world t mem regs) bytes reply

@@ -6,6 +6,7 @@ use mathlib.Core.Bool.{Bool, cond, not, _&&_}
 use mathlib.Core.List.{List, [], _∷_, _++_}
 use Prim.Native.Nat.{ℕ, _*_}
 use Prim.Native.Char.{code}
+use Prim.Native.String.{String}
 use lib.Dec.{ltb, eqb}
 use lib.ListN.{length, getD, replicate}
 use Rattle.common.specs.Bytes.{highFirst}
@@ -18,30 +19,33 @@ use Rattle.target.specs.Limits.{blockSize, maxEntries, plainRoom, maxPlain, pcO
 use Rattle.common.specs.Tab.{tab}
 use Rattle.target.specs.View.{Target}
 use Rattle.wire_text.specs.declared.Reason.{Reason}
-use Rattle.rules.specs.declared.Answer.the-variants.{Nothing, Pass, Yes, No}
+use Rattle.rules.specs.declared.Answer.the-variants.{Nothing, Pass, Yes, No, Text}
 use Rattle.rules.specs.Outcome.{World, world, Outcome, outcome, answered, error}
 use Rattle.rules.specs.Record.{withEntries}
 use Rattle.rules.specs.Request.{withPlains}
 use Rattle.rules.specs.Condition.{dropped}
 use Rattle.rules.specs.Breakpoint.{sites, plainMemory, removed}
 use Rattle.rules.specs.Step.{setupBy, Step, request, trapEvent, scheduleEvent, stateEvent, restartStep}
-use Rattle.rules.specs.Step.{stepOf}
+use Rattle.rules.specs.Step.{textStep, stepOf}
+use Rattle.common.specs.Text.{codes}
+use Rattle.text_packet.specs.Packet.{textMost}
 use Rattle.rules.specs.Book.{Book, opened, fed, realBy}
 use Rattle.rules.specs.Claim.{Stub, stubOf, Part, Says}
 use Rattle.rules.specs.Claim.{numberPart, answerPart, replyPart, fitPart, readsPart, trappedPart, trapPart}
-use Rattle.rules.specs.Claim.{startPart, restartPart}
+use Rattle.rules.specs.Claim.{startPart, restartPart, textPart}
 use Rattle.rules.specs.Worked.{workedSetup}
 
 abbrev pub Acts : Type 0
 Acts = Target → List ℕ → Step → Outcome
 
--- the kind of a step, as the program reads it
+-- the kind of a step, as the program reads it; 6 for a text step
 unfoldable pub kindNumber : Step → ℕ
 kindNumber (request regs bytes reply) = 1
 kindNumber (trapEvent regs pid block) = 2
 kindNumber (scheduleEvent regs pid block) = 3
 kindNumber (stateEvent regs pid value) = 4
 kindNumber (restartStep regs reply) = 5
+kindNumber (textStep regs bytes reply) = 6
 
 -- the rules, but that a step of one kind has another outcome, made of theirs
 unfoldable pub changing : ℕ → (Target → List ℕ → Step → Outcome → Outcome) → Acts
@@ -60,6 +64,7 @@ zerosAlways t mem (trapEvent regs pid block) = answered (Pass 0 0 0 0) (world t 
 zerosAlways t mem (scheduleEvent regs pid block) = answered No (world t mem regs)
 zerosAlways t mem (stateEvent regs pid value) = answered Nothing (world t mem regs)
 zerosAlways t mem (restartStep regs reply) = outcome accepted Nothing (world t mem regs) (replicate 10 0)
+zerosAlways t mem (textStep regs bytes reply) = outcome accepted (Text 0 0) (world t mem regs) (replicate 34 0)
 
 -- the rules, but that a request whose bytes and reply meet a test leaves another world than theirs
 unfoldable pub requestLeaving : (List ℕ → List ℕ → Bool) → (World → World) → Acts
@@ -71,6 +76,7 @@ requestLeaving meets other t mem (trapEvent regs pid block) = stepOf house t mem
 requestLeaving meets other t mem (scheduleEvent regs pid block) = stepOf house t mem (scheduleEvent regs pid block)
 requestLeaving meets other t mem (stateEvent regs pid value) = stepOf house t mem (stateEvent regs pid value)
 requestLeaving meets other t mem (restartStep regs reply) = stepOf house t mem (restartStep regs reply)
+requestLeaving meets other t mem (textStep regs bytes reply) = stepOf house t mem (textStep regs bytes reply)
 
 -- "one that accepts Tmput and stores nothing"
 unfoldable pub storesNothing : Acts
@@ -136,6 +142,10 @@ unfoldable pub keepsTraps : Acts
 keepsTraps = changing 5
     (λ t mem e o. outcome (o .number) Nothing (world (o .after .target) mem (o .after .regs)) (o .reply))
 
+-- answers a text step that writes a word, and stores nothing
+unfoldable pub storesNoWord : Acts
+storesNoWord = changing 6 (λ t mem e o. outcome (o .number) (o .answer) (world t mem (o .after .regs)) (o .reply))
+
 -- calls every record unfit
 unfoldable pub alwaysUnfit : Acts
 alwaysUnfit t mem e = let o = stepOf house t mem e in outcome notFit Nothing (world t mem (o .after .regs)) []
@@ -162,7 +172,7 @@ passed f g (e ∷ es) =
     let (x, o) = f .act (g .own) (g .mem) e in
     let r = stepOf house (g .target) (realBy house workedSetup (g .book)) e in
     passed f (record {
-      book = fed workedSetup (g .book) e (o .number) (o .answer) (o .reply);
+      book = fed house workedSetup (g .book) e (o .number) (o .answer) (o .reply);
       target = r .after .target;
       own = x;
       mem = o .mem;
@@ -217,6 +227,10 @@ continued = request stoppedArea (highFirst 10 0x0e_00000005_0000000000) (replica
 
 abbrev pub scheduled : Step
 scheduled = scheduleEvent zeroed 5 (replicate blockSize 0)
+
+-- a text request, with a buffer of just the room that it needs
+abbrev pub texting : String → Step
+texting s = textStep zeroed (codes s) (replicate textMost 0)
 
 abbrev pub restartNow : Step
 restartNow = restartStep zeroed (replicate 10 0)
@@ -275,4 +289,6 @@ stubRows r =
     part answerPart answersStates [] (stateEvent zeroed 5 9) ∷
     part replyPart zeroRestart [] restartNow ∷
     part restartPart keepsTraps case4 restartNow ∷
+    part textPart (readsReal 6) case4 (texting "0x0 i 0x1008 0x0") ∷
+    memory storesNoWord (case4 ++ (texting "0x0 D 0x1008 0x1" ∷ [])) ∷
     part fitPart alwaysUnfit [] case1 ∷ []

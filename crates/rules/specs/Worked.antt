@@ -9,7 +9,10 @@ use Rattle.memory.specs.Head.{house}
 use Rattle.target.specs.Limits.{blockSize, pcOffset}
 use Rattle.target.specs.View.{Target}
 use Rattle.rules.specs.Outcome.{World, Outcome, shown}
-use Rattle.rules.specs.Step.{Setup, setupBy, Step, request, trapEvent, stateEvent, restartStep}
+use Rattle.rules.specs.Step.{Setup, setupBy, Step, request, trapEvent, stateEvent, restartStep, textStep}
+use Rattle.common.specs.Text.{codes, padded}
+use Rattle.text_packet.specs.Packet.{textMost}
+use Prim.Native.String.{String}
 
 -- ---- running steps
 
@@ -58,6 +61,14 @@ becomes pid value = step (λ regs. stateEvent regs pid value)
 
 abbrev pub restarts : Call
 restarts = step (λ regs. restartStep regs (replicate 10 0))
+
+-- 02, Three: a text request, with a buffer of just the room that it needs
+abbrev pub texts : String → Call
+texts s = step (λ regs. textStep regs (codes s) (replicate textMost 0))
+
+-- number 0, the text, zeros up to 34 bytes, no error, and how many bytes it has
+abbrev pub told : String → ℕ → List ℕ
+told s n = 0 ∷ (padded textMost (codes s) ++ (0 ∷ n ∷ []))
 
 -- number 0 and a reply of ten bytes
 abbrev pub reply : ℕ → List ℕ
@@ -133,4 +144,9 @@ workedRows =
     row (ask 0x14_00000000_0000000000 ∷ []) (reply 0x01_756e6b_000000000000 ∷ []) ∷
     row (ask 0x02_00000000_01_00000000 ∷ []) (reply 0x01_706964_000000000000 ∷ []) ∷
     row (ask 0x06_00000005_0000000000 ∷ ask 0x02_00000000_01_00000000 ∷ [])
-    (reply 0x07_3830303031303030_00 ∷ reply 0x01_6e6f7473746f70_0000 ∷ []) ∷ []
+    (reply 0x07_3830303031303030_00 ∷ reply 0x01_6e6f7473746f70_0000 ∷ []) ∷
+    -- 02, Three: a word, and a word written across the trap of case 4
+    row (texts "0x0 i 0x1004 0x0" ∷ []) (told "0x0 i 0x0 0x7060504" 19 ∷ []) ∷
+    row (planting ++ (texts "0x0 D 0x1008 0xccbbaa99" ∷ look 8 4 ∷ texts "0x0 d 0x1008 0x0" ∷ []))
+    (plantingShows ++ (told "0x0 D 0x0 0xb0a0908" 19 ∷ (0x02 ∷ 0x90 ∷ 0xbb ∷ 0xcc ∷ []) ∷
+    told "0x0 d 0x0 0xccbbaa99" 20 ∷ [])) ∷ []
