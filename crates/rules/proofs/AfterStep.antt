@@ -1,8 +1,8 @@
 -- Events and every step: after each, the record and its memory follow the book.
-use mathlib.Core.Path.{_≡_, refl, sym, _∙_}
+use mathlib.Core.Path.{_≡_, refl, sym, ap, _∙_}
 use mathlib.Core.Bool.{false}
 use mathlib.Core.List.{List, [], _∷_}
-use Prim.Native.Nat.{ℕ, _<_}
+use Prim.Native.Nat.{ℕ, _-_, _<_}
 use lib.Dec.{eqb}
 use Rattle.target_fit.specs.Fit.{stopped}
 use Rattle.memory.specs.Head.{Head}
@@ -16,21 +16,29 @@ use Rattle.rules.specs.Book.{Book, withStopped, bookAnswer, fed}
 use Rattle.rules.specs.Step.{Setup, isAccepted}
 use Rattle.rules.proofs.Agree.{Follows, Agree}
 use Rattle.rules.proofs.Halted.{among-more, among-here}
-use Rattle.rules.proofs.Moves.{move-named, move-kept, move-restart}
+use Rattle.rules.proofs.Moves.{move-named, move-kept, move-written, move-restart}
 use Rattle.rules.specs.declared.Answer.{Answer}
 use Rattle.rules.specs.declared.Answer.the-variants.{Nothing}
 use Rattle.rules.specs.Step.{regsOf, bufferOf}
 use Rattle.rules.proofs.Outcomes.{EventCase, caught, released, yielded, ran, became, by-step}
 use Rattle.rules.proofs.AfterRequest.{after-served}
+use Rattle.rules.specs.Text.{Response, textReplied, isCompleted}
+use Rattle.rules.specs.Step.{textStep}
+use Rattle.rules.specs.Book.{bookWord, bookText}
+use Rattle.text_packet.specs.declared.Packet.{Packet}
+use Rattle.text_packet_read.specs.Read.{readOf}
+use Rattle.text_packet_read.specs.declared.Reading.the-variants.{Accepted}
+use Rattle.rules.proofs.Texts.{TextCase, refusing, word-read, word-written, register-read, register-written}
 
 -- a step that is refused by its number leaves the book
-unfed : (s : Setup) (b : Book) (e : Step) (n : ℕ) (reply : List ℕ) → eqb n 0 ≡ false → fed head s b e n Nothing reply ≡ b
+unfed : (head : Head) (s : Setup) (b : Book) (e : Step) (n : ℕ) (reply : List ℕ) → eqb n 0 ≡ false → fed head s b e n Nothing reply ≡ b
 unfolding fed isAccepted
-unfed s b (request r bytes buffer) n reply h = rw h
-unfed s b (trapEvent r pid block) n reply h = rw h
-unfed s b (scheduleEvent r pid block) n reply h = rw h
-unfed s b (stateEvent r pid value) n reply h = refl
-unfed s b (restartStep r buffer) n reply h = rw h
+unfed head s b (request r bytes buffer) n reply h = rw h
+unfed head s b (trapEvent r pid block) n reply h = rw h
+unfed head s b (scheduleEvent r pid block) n reply h = rw h
+unfed head s b (stateEvent r pid value) n reply h = refl
+unfed head s b (restartStep r buffer) n reply h = rw h
+unfed head s b (textStep r bytes buffer) n reply h = rw h
 
 module _ {head : Head} (s : Setup) (b : Book) (t : Target) (mem regs : List ℕ) (a : Agree head s b t mem) where
   abbrev w : World
@@ -58,6 +66,20 @@ module _ {head : Head} (s : Setup) (b : Book) (t : Target) (mem regs : List ℕ)
   after-heard ran = v
   after-heard (became h e n) = move-kept s b t mem v (a .good) _ h _ _ (n ∙ sym e)
 
+  -- a text request: a word written goes into the book
+  after-text : (bytes reply : List ℕ) (p : Packet) (r : Response) → readOf bytes ≡ Accepted p → TextCase head w p r
+      → let o = textReplied p r reply in
+      Follows head s (fed head s b (textStep regs bytes reply) (o .number) (o .answer) (o .reply)) (o .after .target)
+      (o .after .mem)
+  unfolding textReplied fed isCompleted bookText bookWord
+  after-text bytes reply p r q (refusing errno) = v
+  after-text bytes reply p r q (word-read x k e) = rw (q, k) v
+  after-text bytes reply p r q (word-written x k e) =
+      rw (q, k, ap (λ (n : ℕ). p .third - n) (sym (v .base)))
+      (move-written s b t mem v (a .good) regs (p .third) (head .bytes (p .fourth)))
+  after-text bytes reply p r q (register-read x k) = rw (q, k) v
+  after-text bytes reply p r q (register-written x area k) = rw (q, k) v
+
 -- every step
 pub after-step : {head : Head} (s : Setup) (b : Book) (t : Target) (mem : List ℕ) → Agree head s b t mem → (e : Step)
     → let o = stepOf head t mem e in
@@ -66,7 +88,8 @@ unfolding fed refused answered restart repliedWith
 after-step {head} s b t mem a =
     by-step t mem (λ e o. Follows head s (fed head s b e (o .number) (o .answer) (o .reply)) (o .after .target)
     (o .after .mem))
-    (λ e n h three. rw (unfed s b e n (bufferOf e) h) (a .follows))
+    (λ e n h three. rw (unfed head s b e n (bufferOf e) h) (a .follows))
     (λ regs bytes reply o x. after-served s b t mem regs a x)
     (λ e x o h. after-heard s b t mem (regsOf e) a h)
     (λ regs reply. move-restart s b t mem (a .follows) (a .good .lawful) regs)
+    (λ regs bytes reply p r q c. after-text s b t mem regs a bytes reply p r q c)

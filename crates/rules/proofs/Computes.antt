@@ -11,7 +11,7 @@ use Rattle.common.specs.Text.{codes, padded}
 use Rattle.wire.specs.Codec.{data4}
 use Rattle.wire.specs.Kind.{kinds, kindOf}
 use Rattle.wire.specs.Message.{isOp, bytesOf, typeOf, fieldsOf, bytes4, bytes9}
-use Rattle.wire_text.specs.Text.{reasonName, hexDigit, hexBytes, stateNames, stateText, addressText}
+use Rattle.wire_text.specs.Text.{digitValue, reasonName, hexDigit, hexBytes, stateNames, stateText, addressText}
 use Rattle.request_parse.specs.Request.{counted, unused, lettered, parsedBy, parseOf}
 use Rattle.memory.specs.Overlay.{siteOver, slotOf, covered, plainAt, plainOf, laidAt, laidOver}
 use Rattle.memory.specs.Place.{placeOf, isSite}
@@ -38,7 +38,13 @@ use Rattle.rules.specs.Request.{proc, status, rnote, stop, start, serve,
 use Rattle.rules.specs.Event.{onListed, holds, trapped, trap, schedule, state, restarted, restart}
 use Rattle.rules.specs.Step.{setupBy, beginning, setupTarget, setupOf, sized, checked, requestOf, trapOf}
 use Rattle.rules.specs.Step.{scheduleOf, stateOf, restartOf}
-use Rattle.rules.specs.Step.{stepOf}
+use Rattle.rules.specs.Step.{stepOf, textStepOf}
+use Rattle.rules.specs.Text.{textRequest, textBy, textReplied, textKind, responseBy, onPid, onWord, onFetched}
+use Rattle.rules.specs.Text.{onRegister, registerAt, registerWritten, isCompleted}
+use Rattle.rules.specs.Book.{bookText, bookWord, wordReplyBy, isWord}
+use Rattle.text_packet.specs.Packet.{isPacket, textOf, numberText, digitsOf, leadingZeros}
+use Rattle.text_packet.specs.Write.{filledWith}
+use Rattle.text_packet_read.specs.Read.{readOf, candidateOf, hexValue, afterBlank}
 use Rattle.rules.specs.Worked.{shownBy, after}
 use Rattle.rules.specs.Step.{isAccepted}
 use Rattle.rules.specs.Book.{opened, realBy, sitesBy, trapBy, trapNumber, answerAmong, answerOf, fetchBy, readBy}
@@ -50,7 +56,7 @@ use Rattle.rules.specs.Stubs.{kindNumber, changing, rerrAlways, zerosAlw
 use Rattle.rules.specs.Stubs.{plantsFirstOnly, plantsNothing}
 use Rattle.rules.specs.Stubs.{removesAtStart, answersNothing}
 use Rattle.rules.specs.Stubs.{readsReal, findsNoSite, neverStops, acceptsStates, answersStates, zeroRestart}
-use Rattle.rules.specs.Stubs.{keepsTraps, alwaysUnfit}
+use Rattle.rules.specs.Stubs.{keepsTraps, storesNoWord, alwaysUnfit}
 use Rattle.rules.specs.Stubs.{passed, SaysAfter, RealAfter}
 
 unfoldable pub steps-compute : ℕ
@@ -73,6 +79,9 @@ unfolding shownBy after shown shownWith answerBytes
     siteOver slotOf covered plainAt plainOf laidAt laidOver
     parseOf parsedBy counted unused lettered data4 kinds kindOf
     isOp bytesOf typeOf fieldsOf bytes4 bytes9 reasonName hexDigit hexBytes stateNames stateText addressText
+    textStepOf textRequest textBy textReplied textKind responseBy onPid onWord onFetched onRegister registerAt
+    registerWritten readOf candidateOf hexValue afterBlank isPacket textOf numberText digitsOf leadingZeros filledWith
+    digitValue
     lowFirst ofLowFirst highFirst ofHighFirst wordAt every firstOf among byKeys sameList allZero tab codes padded
 steps-compute = 0
 
@@ -81,6 +90,7 @@ unfoldable pub claim-computes : ℕ
 unfolding steps-compute SaysAfter RealAfter Says passed opened fed isAccepted bookRequest bookServed bookCondbreak
     bookWrite bookStart bookAnswer inWindow intoWindow sets joins removing others withPlain withPending withBreakpoints
     withStopped
+    bookText bookWord wordReplyBy isWord isCompleted storesNoWord
     realBy sitesBy trapBy trapNumber answerAmong answerOf passBy startBy fetchBy readBy
     kindNumber changing rerrAlways zerosAlways requestLeaving storesNothing plantsFirstOnly plantsNothing
     readsReal removesAtStart answersNothing findsNoSite neverStops acceptsStates answersStates zeroRestart keepsTraps

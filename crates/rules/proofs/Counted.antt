@@ -37,6 +37,10 @@ use Rattle.memory.specs.Write.{plainAfter}
 use Rattle.rules.specs.Breakpoint.{sites, plains}
 use Rattle.rules.specs.Request.{drops}
 use Rattle.rules.proofs.KeptDraft.{hand-of}
+use Rattle.rules.specs.Step.{textStep}
+use Rattle.rules.specs.Text.{Response, textReplied}
+use Rattle.text_packet.specs.declared.Packet.{Packet}
+use Rattle.rules.proofs.Texts.{TextCase, refusing, word-read, word-written, register-read, register-written}
 use Rattle.rules.proofs.Outcomes.{RequestCase, RequestOutcome, serving, failing, EventCase, got, put, aside}
 use Rattle.rules.proofs.Outcomes.{current, told, noted, halted, marked, started, cleared, begins, plants}
 use Rattle.rules.proofs.Outcomes.{removes, adds, caught, released, yielded, ran, became, by-step}
@@ -220,6 +224,7 @@ uncounted y (trapEvent r pid block) n reply h = refl
 uncounted y (scheduleEvent r pid block) n reply h = refl
 uncounted y (stateEvent r pid value) n reply h = refl
 uncounted y (restartStep r buffer) n reply h = rw h
+uncounted y (textStep r bytes buffer) n reply h = refl
 
 -- an event leaves the table
 counts-heard : {head : Head} (t : Target) (mem regs : List ℕ) (y : Count) → Counts (t .table) y
@@ -231,6 +236,15 @@ counts-heard t mem regs y c (released k e) = c
 counts-heard t mem regs y c (yielded h) = c
 counts-heard t mem regs y c ran = c
 counts-heard t mem regs y c (became h e n) = c
+
+-- a text request leaves the count
+counts-text : {head : Head} (t : Target) (mem regs : List ℕ) → Good head t mem → (y : Count) → Counts (t .table) y
+    → (p : Packet) (r : Response) → TextCase head (world t mem regs) p r → Counts (r .after .target .table) y
+counts-text t mem regs g y c p r (refusing errno) = c
+counts-text t mem regs g y c p r (word-read v k e) = c
+counts-text t mem regs g y c p r (word-written v k e) = counts-written t mem regs g y c _ _
+counts-text t mem regs g y c p r (register-read v k) = c
+counts-text t mem regs g y c p r (register-written v area k) = c
 
 -- a fresh table holds none
 pub counts-fresh : Counts freshTable noneHeld
@@ -245,10 +259,11 @@ counts-fresh = record {
 -- every step
 pub counts-step : {head : Head} (t : Target) (mem : List ℕ) (y : Count) → Good head t mem → Counts (t .table) y
     → (e : Step) → let o = stepOf head t mem e in Counts (o .after .target .table) (counted y e (o .number) (o .reply))
-unfolding refused answered restart repliedWith counted
+unfolding refused answered restart repliedWith textReplied counted
 counts-step t mem y g c =
     by-step t mem (λ e o. Counts (o .after .target .table) (counted y e (o .number) (o .reply)))
     (λ e n h three. rw (uncounted y e n (bufferOf e) h) c)
     (λ regs bytes reply o x. counts-served t mem regs g y c bytes x)
     (λ e x v h. counts-heard t mem (regsOf e) y c h)
     (λ regs reply. counts-fresh)
+    (λ regs bytes reply p r q x. counts-text t mem regs g y c p r x)

@@ -21,6 +21,9 @@ use Rattle.rules.specs.Breakpoint.{sites}
 use Rattle.rules.specs.Condition.{dropped}
 use Rattle.rules.specs.Event.{restart}
 use Rattle.rules.specs.Step.{setupTarget, sized, Step, stepOf}
+use Rattle.rules.specs.Text.{Response, textReplied}
+use Rattle.text_packet.specs.declared.Packet.{Packet}
+use Rattle.rules.proofs.Texts.{TextCase, refusing, word-read, word-written, register-read, register-written}
 use Rattle.rules.proofs.Outcomes.{processNamed, RequestCase, RequestOutcome, serving, failing, EventCase}
 use Rattle.rules.proofs.Outcomes.{SetUp, taken, emptied, got, put, aside, current}
 use Rattle.rules.proofs.Outcomes.{told, noted, halted, marked, started, cleared, begins, plants, removes, adds}
@@ -97,13 +100,23 @@ module _ {head : Head} (w : World) (g : GoodWorld head w) where
   fine-served (serving x m v h e l) = record { good = good-left l; notThree = omega arith }
   fine-served {d = d} (failing r) = record { good = good-unless d; notThree = omega arith }
 
+-- a text request leaves a good record good
+good-text : {head : Head} (w : World) → GoodWorld head w → (p : Packet) (r : Response) → TextCase head w p r
+    → GoodWorld head (r .after)
+good-text w g p r (refusing errno) = g
+good-text w g p r (word-read v k e) = g
+good-text w g p r (word-written v k e) = good-window w g _ _
+good-text w g p r (register-read v k) = g
+good-text w g p r (register-written v regs k) = g
+
 fine-step : {head : Head} (t : Target) (mem : List ℕ) (e : Step) → Good head t mem → Fine head (stepOf head t mem e)
-unfolding refused answered restart repliedWith
+unfolding refused answered restart repliedWith textReplied
 fine-step {head} t mem e g =
     by-step t mem (λ e o. Fine head o) (λ e n h three. record { good = g; notThree = three (g .fit) })
     (λ regs bytes reply o x. fine-served (world t mem regs) g x)
     (λ e x v h. record { good = good-heard (world t mem (regsOf e)) g h; notThree = omega arith })
-    (λ regs reply. record { good = good-restarted (world t mem regs) g; notThree = omega arith }) e
+    (λ regs reply. record { good = good-restarted (world t mem regs) g; notThree = omega arith })
+    (λ regs bytes reply p r q c. record { good = good-text (world t mem regs) g p r c; notThree = omega arith }) e
 
 -- ---- the statements
 

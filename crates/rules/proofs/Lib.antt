@@ -1,5 +1,6 @@
 pub mod Computes
 pub mod Worked
+pub mod Texts
 pub mod Outcomes
 pub mod Replies
 pub mod Refusals

@@ -56,6 +56,13 @@ use Rattle.rules.specs.Request.{withTarget}
 use Rattle.rules.specs.Request.{proc, status, rnote, stop, start, serve, drops, refusedBy, requestBy}
 use Rattle.rules.specs.Event.{onListed, holds, trapped, trap, schedule, state, restart}
 use Rattle.rules.specs.Step.{setupTarget, setupOf, sized, checked, requestOf, trapOf, scheduleOf, stateOf}
+use Rattle.rules.specs.Step.{textStepOf, textStep}
+use Rattle.rules.specs.Text.{Response, textReplied, textBy, textRequest}
+use Rattle.text_packet.specs.declared.Packet.{Packet}
+use Rattle.text_packet_read.specs.Read.{readOf}
+use Rattle.text_packet_read.specs.declared.Reading.{Reading}
+use Rattle.text_packet_read.specs.declared.Reading.the-variants.{Accepted, NoPacket}
+use Rattle.rules.proofs.Texts.{TextCase, text-of}
 use Rattle.rules.specs.Step.{restartOf}
 use Rattle.rules.specs.Step.{Step, request, trapEvent, scheduleEvent, stateEvent, restartStep, stepOf, regsOf}
 use Rattle.rules.specs.Step.{bufferOf}
@@ -168,6 +175,12 @@ pub data StepOutcome (head : Head) (w : World) (reply : List ℕ) (P : Outcome �
   numbered : (n : ℕ) → eqb n 0 ≡ false → (fitOf head (w .target) (w .mem) ≡ true → n ≡ 3 → ⊥)
       → StepOutcome head w reply P (refused n w reply)
   past-checks : {o : Outcome} → P o → StepOutcome head w reply P o
+
+-- ---- a text step that passed its checks: a packet, and what it is given
+
+pub data TextOutcome (head : Head) (w : World) (bytes reply : List ℕ) : Outcome → Type 0 where
+  text-outcome : (p : Packet) (r : Response) → readOf bytes ≡ Accepted p → TextCase head w p r
+      → TextOutcome head w bytes reply (textReplied p r reply)
 
 -- ---- setup: taken, with what its rule tells, or refused and the record empty
 
@@ -463,7 +476,21 @@ module _ (head : Head) (w : World) where
       (λ e. let n = neither (isStopped (processNamed w pid)) (eqb value stopped) e in
       past-checks (event-outcome _ _ (became h (n .0) (n .1))))))
 
--- ---- every step: what holds of a refusal by its number, of a request, of an event and of a restart holds of each
+  pub outcome-text : (bytes reply : List ℕ)
+      → StepOutcome head w reply (TextOutcome head w bytes reply) (textStepOf head w bytes reply)
+  unfolding textStepOf textRequest textBy
+  outcome-text bytes reply =
+      on-checks _ true reply _
+      (λ z. choose (StepOutcome head w reply (TextOutcome head w bytes reply)) (ltb (length reply) 34)
+      (λ e. numbered 11 refl (λ k z. omega arith)) (λ e. by (readOf bytes) refl))
+    where
+      by : (x : Reading) → readOf bytes ≡ x
+          → StepOutcome head w reply (TextOutcome head w bytes reply) (textBy head x w reply)
+      by (Accepted p) e = past-checks (text-outcome p _ e (text-of head w p))
+      by NoPacket e = numbered 10 refl (λ k z. omega arith)
+
+-- ---- every step: what holds of a refusal by its number, of a request, of an event, of a restart and of a text step
+-- holds of each
 
 module _ {head : Head} (t : Target) (mem : List ℕ) (R : Step → Outcome → Type 0)
     (stays : (e : Step) (n : ℕ) → eqb n 0 ≡ false → (fitOf head t mem ≡ true → n ≡ 3 → ⊥)
@@ -472,7 +499,9 @@ module _ {head : Head} (t : Target) (mem : List ℕ) (R : Step → Outcome → T
     → RequestOutcome (world t mem regs) (drops bytes) (RequestCase head (world t mem regs) (parseOf bytes)) o
     → R (request regs bytes reply) o)
     (tells : (e : Step) (a : Answer) (v : World) → EventCase head (world t mem (regsOf e)) e a v → R e (answered a v))
-    (restarts : (regs reply : List ℕ) → R (restartStep regs reply) (restart head (world t mem regs))) where
+    (restarts : (regs reply : List ℕ) → R (restartStep regs reply) (restart head (world t mem regs)))
+    (texts : (regs bytes reply : List ℕ) (p : Packet) (r : Response) → readOf bytes ≡ Accepted p
+    → TextCase head (world t mem regs) p r → R (textStep regs bytes reply) (textReplied p r reply)) where
   on-outcome : (e : Step) {P : Outcome → Type 0} {o : Outcome} → (P o → R e o)
       → StepOutcome head (world t mem (regsOf e)) (bufferOf e) P o → R e o
   on-outcome e f (numbered n h g) = stays e n h g
@@ -480,6 +509,10 @@ module _ {head : Head} (t : Target) (mem : List ℕ) (R : Step → Outcome → T
 
   on-event : (e : Step) {o : Outcome} → EventOutcome head (world t mem (regsOf e)) e o → R e o
   on-event e (event-outcome a v h) = tells e a v h
+
+  on-text : (regs bytes reply : List ℕ) {o : Outcome} → TextOutcome head (world t mem regs) bytes reply o
+      → R (textStep regs bytes reply) o
+  on-text regs bytes reply (text-outcome p r e c) = texts regs bytes reply p r e c
 
   pub by-step : (e : Step) → R e (stepOf head t mem e)
   unfolding stepOf regsOf bufferOf
@@ -498,3 +531,6 @@ module _ {head : Head} (t : Target) (mem : List ℕ) (R : Step → Outcome → T
   by-step (restartStep regs reply) =
       on-outcome (restartStep regs reply) (λ e. rw e (restarts regs reply))
       (outcome-restart head (world t mem regs) reply)
+  by-step (textStep regs bytes reply) =
+      on-outcome (textStep regs bytes reply) (on-text regs bytes reply)
+      (outcome-text head (world t mem regs) bytes reply)

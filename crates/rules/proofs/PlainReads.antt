@@ -13,7 +13,7 @@ use lib.Dec.{leb, ltb, eqb}
 use lib.ListN.{length, getD, take}
 use Rattle.common.specs.Tab.{tab}
 use Rattle.common.proofs.Same.{true-or-false, and-both}
-use Rattle.condition.specs.Evaluate.{evalFrom, evaluateOf, fetchOf}
+use Rattle.condition.specs.Evaluate.{evalFrom, evaluateOf, fetchOf, wordOf}
 use Rattle.condition.specs.declared.Fetched.{Fetched}
 use Rattle.condition.specs.declared.Fetched.the-variants.{Word, Outside}
 use Rattle.target_fit.specs.Fit.{processAt, entryAt}
@@ -47,7 +47,14 @@ use Rattle.rules.specs.Event.{holds, restart}
 use Rattle.rules.specs.Step.{Step, request, trapEvent, scheduleEvent, stateEvent, restartStep, stepOf}
 use Rattle.rules.specs.Book.{Breakpoint, Book, inWindow, readBy, fetchBy, answerOf}
 use Rattle.rules.specs.Step.{Setup, isAccepted}
-use Rattle.rules.specs.Book.{answerAmong, trapBy, passBy, startBy}
+use Rattle.rules.specs.Book.{answerAmong, trapBy, passBy, startBy, wordReplyBy, isWord}
+use Rattle.rules.specs.Step.{textStep}
+use Rattle.rules.specs.Text.{Response, textKind, textReplied, isCompleted}
+use Rattle.text_packet.specs.declared.Packet.{Packet}
+use Rattle.text_packet_read.specs.Read.{readOf}
+use Rattle.text_packet_read.specs.declared.Reading.{Reading}
+use Rattle.text_packet_read.specs.declared.Reading.the-variants.{Accepted}
+use Rattle.rules.proofs.Texts.{TextCase, refusing, word-read, word-written, register-read, register-written}
 use Rattle.rules.proofs.Facts.{Used}
 use Rattle.rules.proofs.FitFacts.{facts-of, slot-used, slot-multiple, slot-only, slot-byte, eight-sites}
 use Rattle.rules.proofs.Found.{used-at, at-site}
@@ -98,6 +105,9 @@ RightStep h s b (trapEvent regs pid block) o = o .number ≡ 0 → o .answer ≡
 RightStep h s b (scheduleEvent regs pid block) o = Unit
 RightStep h s b (stateEvent regs pid value) o = Unit
 RightStep h s b (restartStep regs buffer) o = o .number ≡ 0 → o .after .mem ≡ b .plain
+RightStep h s b (textStep regs bytes buffer) o =
+    (p : Packet) → readOf bytes ≡ Accepted p → isWord (textKind (p .letter)) ≡ true → o .number ≡ 0
+    → isCompleted (o .answer) ≡ true → o .reply ≡ wordReplyBy h s b p buffer
 
 module _ {head : Head} (s : Setup) (b : Book) (t : Target) (mem : List ℕ) (a : Agree head s b t mem) where
   -- ---- a Tmget of the window
@@ -301,6 +311,30 @@ module _ {head : Head} (s : Setup) (b : Book) (t : Target) (mem : List ℕ) (a :
   reads-heard ran = tt
   reads-heard (became h e n) = tt
 
+  -- ---- a text step
+
+  -- a word that was fetched is the book's
+  reads-fetched : (x v : ℕ) → fetchOf head (sites t) (plains t) mem (t .base) x ≡ Word v
+      → v ≡ wordOf (fetchBy head s b x)
+  unfolding wordOf
+  reads-fetched x v e = sym (ap wordOf (sym (ap (λ (f : ℕ → Fetched). f x) reads-fetch) ∙ e))
+
+  same-packet : (p q : Packet) → _≡_ {A = Reading} (Accepted p) (Accepted q) → p ≡ q
+  same-packet p q e = cc
+
+  reads-text : (regs bytes buffer : List ℕ) (q : Packet) (r : Response) → readOf bytes ≡ Accepted q
+      → TextCase head (world t mem regs) q r → RightStep head s b (textStep regs bytes buffer) (textReplied q r buffer)
+  unfolding RightStep textReplied isCompleted wordReplyBy isWord
+  reads-text regs bytes buffer q r f (refusing errno) = λ p g k z c. true-or-false c
+  reads-text regs bytes buffer q r f (word-read v k e) = λ p g i z c.
+      rw (← same-packet q p (sym f ∙ g), ← reads-fetched (q .third) v e)
+  reads-text regs bytes buffer q r f (word-written v k e) = λ p g i z c.
+      rw (← same-packet q p (sym f ∙ g), ← reads-fetched (q .third) v e)
+  reads-text regs bytes buffer q r f (register-read v k) = λ p g i z c.
+      true-or-false (rw (← same-packet q p (sym f ∙ g), k) at i)
+  reads-text regs bytes buffer q r f (register-written v area k) = λ p g i z c.
+      true-or-false (rw (← same-packet q p (sym f ∙ g), k) at i)
+
   -- one that is refused by its number answers nothing
   reads-none : (e : Step) (n : ℕ) → eqb n 0 ≡ false
       → RightStep head s b e (refused n (world t mem (regsOf e)) (bufferOf e))
@@ -310,9 +344,11 @@ module _ {head : Head} (s : Setup) (b : Book) (t : Target) (mem : List ℕ) (a :
   reads-none (scheduleEvent regs pid block) n h = tt
   reads-none (stateEvent regs pid value) n h = tt
   reads-none (restartStep regs reply) n h = λ z. absurd (eqb-false n 0 h z)
+  reads-none (textStep regs bytes reply) n h = λ p f k z c. absurd (eqb-false n 0 h z)
 
   pub right-step : (e : Step) → RightStep head s b e (stepOf head t mem e)
   unfolding RightStep restart repliedWith
   right-step =
       by-step t mem (RightStep head s b) (λ e n h three. reads-none e n h) (λ regs bytes reply o x. reads-served x)
       (λ e x v h. reads-heard h) (λ regs reply z. a .follows .plain)
+      (λ regs bytes reply p r q c. reads-text regs bytes reply p r q c)

@@ -1,6 +1,6 @@
 -- Demand 1, for every record, memory and step: what a refused step leaves as it was. Assumes nothing of the record.
 use mathlib.Core.Path.{_≡_, refl}
-use mathlib.Core.Bool.{Bool, true, false, cond, not}
+use mathlib.Core.Bool.{Bool, true, false, cond, not, _&&_}
 use mathlib.Core.List.{List}
 use Prim.Native.Nat.{ℕ}
 use borrow.Author.Tests.{eqb-false}
@@ -20,7 +20,12 @@ use Rattle.rules.specs.Step.{Step, request, trapEvent, scheduleEvent, st
 use Rattle.rules.proofs.Outcomes.{SetUp, taken, emptied, set-up}
 use Rattle.rules.proofs.Replies.{Handled, accepted, refusing, Checked, held, passed}
 use Rattle.rules.proofs.Replies.{request-checked, trap-checked, schedule-checked, state-checked}
-use Rattle.rules.proofs.Replies.{restart-checked, served-reply}
+use Rattle.rules.proofs.Replies.{restart-checked, text-checked, served-reply}
+use Rattle.rules.proofs.Outcomes.{TextOutcome, text-outcome}
+use Rattle.rules.specs.Step.{textStep}
+use Rattle.rules.specs.Text.{textReplied, isCompleted}
+use Rattle.rules.proofs.Texts as texts
+use Rattle.rules.proofs.Texts.{word-read, word-written, register-read, register-written}
 
 -- ---- what is kept
 
@@ -73,6 +78,21 @@ by-number : (P : Outcome → Type 0) {w : World} {reply : List ℕ} {o : Outcome
 by-number P zero c =
     by-checks P (λ o. not (eqb (o .number) 0)) false zero (λ o p e. true-or-false (rw (zero o p) at e)) c
 
+-- a text step that is answered with ERRFLG -1
+left-text : {head : Head} {w : World} {bytes reply : List ℕ} {o : Outcome} → TextOutcome head w bytes reply o
+    → not (eqb (o .number) 0 && isCompleted (o .answer)) ≡ true → o .after ≡ w
+unfolding textReplied isCompleted
+left-text (text-outcome p r q (texts.refusing errno)) e = refl
+left-text (text-outcome p r q (word-read v k f)) e = true-or-false e
+left-text (text-outcome p r q (word-written v k f)) e = true-or-false e
+left-text (text-outcome p r q (register-read v k)) e = true-or-false e
+left-text (text-outcome p r q (register-written v regs k)) e = true-or-false e
+
+text-number : {head : Head} {w : World} {bytes reply : List ℕ} {o : Outcome} → TextOutcome head w bytes reply o
+    → o .number ≡ 0
+unfolding textReplied
+text-number (text-outcome p r q c) = refl
+
 -- ---- the statement
 
 pub refusals : (head : Head) (t : Target) (mem : List ℕ) (e : Step)
@@ -90,6 +110,9 @@ refusals head t mem (stateEvent regs pid value) =
     by-number NoReply (λ o p. p .number) (state-checked head (world t mem regs) pid value)
 refusals head t mem (restartStep regs reply) =
     by-number Reply (λ o p. p .number) (restart-checked head (world t mem regs) reply)
+refusals head t mem (textStep regs bytes reply) =
+    by-checks (TextOutcome head (world t mem regs) bytes reply) (λ o. not (eqb (o .number) 0 && isCompleted (o .answer)))
+    false (λ o p. text-number p) (λ o. left-text) (text-checked head (world t mem regs) bytes reply)
 
 -- ---- setup
 

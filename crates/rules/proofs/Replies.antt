@@ -22,7 +22,7 @@ use Rattle.wire_text.specs.declared.Reason.the-variants.{Reset}
 use Rattle.wire_laws.proofs.Messages.{ten-bytes}
 use Rattle.rules.specs.declared.Answer.{Answer}
 use Rattle.rules.specs.declared.Answer.the-variants.{Nothing}
-use Rattle.rules.specs.Claims.{Reply, NoReply, RightReply, requestNumber}
+use Rattle.rules.specs.Claims.{Reply, NoReply, TextReply, RightReply, requestNumber}
 use Rattle.rules.specs.Outcome.{World, Outcome, repliedWith, error, refused, answered}
 use Rattle.rules.specs.Condition.{dropped}
 use Rattle.rules.specs.Request.{drops, requestBy}
@@ -32,7 +32,9 @@ use Rattle.rules.specs.Step.{Step, request, trapEvent, scheduleEvent, st
 use Rattle.rules.proofs.Outcomes.{RequestOutcome, serving, failing, EventOutcome, event-outcome, StepOutcome}
 use Rattle.rules.proofs.Outcomes.{numbered, past-checks}
 use Rattle.rules.proofs.Outcomes.{request-of, outcome-request, outcome-restart, outcome-trap, outcome-schedule}
-use Rattle.rules.proofs.Outcomes.{outcome-state}
+use Rattle.rules.proofs.Outcomes.{outcome-state, TextOutcome, text-outcome, outcome-text}
+use Rattle.rules.specs.Step.{textStepOf, textStep}
+use Rattle.rules.specs.Text.{textReplied}
 
 -- ---- what a request comes to, over a fit record and buffers of the right size
 
@@ -68,6 +70,12 @@ event-reply : {head : Head} {w : World} {e : Step} {o : Outcome} → EventOutcom
 unfolding answered
 event-reply (event-outcome a v h) = record { number = refl; none = refl }
 
+text-reply : {head : Head} {w : World} {bytes reply : List ℕ} {o : Outcome} → TextOutcome head w bytes reply o
+    → TextReply bytes reply o
+unfolding textReplied
+text-reply (text-outcome p r e c) =
+    record { number = refl; asked = p; asks = e; flag = r .flag; value = r .value; text = refl; answer = refl }
+
 module _ (head : Head) (w : World) where
   pub request-checked : (l reply : List ℕ) → Checked (Handled w (drops l)) w reply (requestOf head w l reply)
   request-checked l reply = by-walk handled-of (outcome-request head w l reply)
@@ -84,6 +92,10 @@ module _ (head : Head) (w : World) where
 
   pub state-checked : (pid value : ℕ) → Checked NoReply w [] (stateOf head w pid value)
   state-checked pid value = by-walk event-reply (outcome-state head w [] pid value)
+
+  pub text-checked : (bytes reply : List ℕ) → Checked (TextOutcome head w bytes reply) w reply
+      (textStepOf head w bytes reply)
+  text-checked bytes reply = by-walk (λ p. p) (outcome-text head w bytes reply)
 
 -- ---- the statements
 
@@ -107,6 +119,8 @@ replies head t mem (trapEvent regs pid block) e = let-pass NoReply (trap-checked
 replies head t mem (scheduleEvent regs pid block) e = let-pass NoReply (schedule-checked head _ pid block) e
 replies head t mem (stateEvent regs pid value) e = let-pass NoReply (state-checked head _ pid value) e
 replies head t mem (restartStep regs reply) e = let-pass Reply (restart-checked head _ reply) e
+replies head t mem (textStep regs bytes reply) e = 
+    text-reply (let-pass (TextOutcome _ _ _ _) (text-checked head _ bytes reply) e)
 
 -- a request of ten bytes has number 0
 pub asked-number : (head : Head) (w : World) (bytes reply : List ℕ) → eqb (length bytes) 10 ≡ true

@@ -13,13 +13,16 @@ use Rattle.rules.specs.Outcome.{answerBytes}
 use Rattle.rules.specs.Step.{Step, stateEvent}
 use Rattle.rules.specs.Claim.{Stub, stubOf, Part, Says, Right, Action, step, Claim, Demand3}
 use Rattle.rules.specs.Claim.{numberPart, answerPart, replyPart, fitPart, readsPart, trappedPart, trapPart}
-use Rattle.rules.specs.Claim.{startPart, restartPart}
+use Rattle.rules.specs.Claim.{startPart, restartPart, textPart}
 use Rattle.rules.specs.Claims.{ShutOut, AllShut, none, _&_}
 use Rattle.rules.specs.Stubs.{rerrAlways, zerosAlways, storesNothing, plantsFirstOnly, plantsNothing}
 use Rattle.rules.specs.Stubs.{readsReal, findsNoSite, neverStops, acceptsStates, answersStates, zeroRestart}
-use Rattle.rules.specs.Stubs.{removesAtStart, answersNothing, keepsTraps, alwaysUnfit}
+use Rattle.rules.specs.Stubs.{removesAtStart, answersNothing, keepsTraps, storesNoWord, alwaysUnfit}
 use Rattle.rules.specs.Stubs.{zeroed, asking, trapAt, scheduled, restartNow, case1, twoBytes, case4, twice, case5}
-use Rattle.rules.specs.Stubs.{readBack, case10, stoppedArea, continued}
+use Rattle.rules.specs.Stubs.{readBack, case10, stoppedArea, continued, texting}
+use Rattle.text_packet.specs.declared.Packet.{Packet}
+use Rattle.common.specs.Text.{codes}
+use Prim.Native.Char.{code}
 use Rattle.rules.specs.Stubs.{Stage, firstStage, passed, SaysAfter, RealAfter, StubRow, part, memory, actsOf}
 use Rattle.rules.specs.Stubs.{SaysRow}
 use Rattle.rules.specs.Stubs.{stubRows}
@@ -40,6 +43,7 @@ said c trappedPart = c .trapped
 said c trapPart = c .trap
 said c startPart = c .start
 said c restartPart = c .restart
+said c textPart = c .text
 
 module _ (f : Stub) where
   along : (g : Stage f) (es : List Step) (rest : List Action)
@@ -162,6 +166,18 @@ always-unfit : SaysAfter fitPart (stubOf alwaysUnfit) [] case1 → ⊥
 unfolding claim-computes
 always-unfit c = c refl
 
+-- the text request of a word, and its packet
+abbrev wordAsked : Packet
+wordAsked = record { pid = 0; letter = code "i"; third = 4_104; fourth = 0 }
+
+texts-real : SaysAfter textPart (stubOf (readsReal 6)) case4 (texting "0x0 i 0x1008 0x0") → ⊥
+unfolding claim-computes
+texts-real c = apart (c zeroed (codes "0x0 i 0x1008 0x0") (replicate 34 0) wordAsked refl refl refl refl refl) refl
+
+stores-no-word : RealAfter (stubOf storesNoWord) (case4 ++ (texting "0x0 D 0x1008 0x1" ∷ [])) → ⊥
+unfolding claim-computes
+stores-no-word c = apart c refl
+
 pub stubs : (r : Reason) → AllShut (stubRows r)
 unfolding stubRows SaysRow
 stubs r =
@@ -183,5 +199,7 @@ stubs r =
     by-row _ answers-states &
     by-row _ zero-restart &
     by-row _ keeps-traps &
+    by-row _ texts-real &
+    by-row _ stores-no-word &
     by-row _ always-unfit &
     none

@@ -18,7 +18,7 @@ use Rattle.target.specs.View.{Target}
 use Rattle.wire.specs.declared.Message.the-variants.{Tmget, Tstart}
 use Rattle.rules.specs.Outcome.{Outcome, answered}
 use Rattle.rules.specs.Breakpoint.{sites}
-use Rattle.rules.specs.Step.{setupTarget, Step, request, trapEvent, restartStep, stepOf}
+use Rattle.rules.specs.Step.{setupTarget, Step, request, trapEvent, restartStep, textStep, stepOf}
 use Rattle.rules.specs.Book.{Book, inWindow, readBy, startBy, opened, withPlain, fed, underTrap}
 use Rattle.rules.specs.Step.{Setup, setupBy, isAccepted}
 use Rattle.rules.specs.Claim.{stubOf, Says, Right, Action, step, change, Claim, Demand3}
@@ -135,6 +135,7 @@ right s b t mem a e = record {
   start = λ regs bytes buffer pid q. rw q (right-start s b t mem a regs bytes buffer pid);
   trapped = λ x y z q. rw q (trap-number s b t mem a _ _ _);
   restart = λ x y q. rw q (right-step s b t mem a (restartStep _ _));
+  text = λ x y z p q. rw q (right-step s b t mem a (textStep _ _ _) p);
 }
 
 -- what is claimed holds wherever the relation does
