@@ -31,6 +31,7 @@ use Rattle.step_effect.specs.Effect.{effectOf, requestOutcome}
 use Rattle.step_effect.specs.Ready.{Blocks}
 use Rattle.step_effect.specs.declared.Change.the-variants.{Plain}
 use Rattle.step_effect.specs.declared.Effect.{Effect}
+use Rattle.step_effect.specs.Change.{stored}
 use Rattle.step_effect.proofs.View.{stored-plains}
 use Rattle.rules.specs.Record.{withTable, withEntries, indexOf, isStopped, blockAt}
 use Rattle.rules.specs.Request.{onBlock, data9Of, gotFrom, mget, mput, withPlains, windowWritten, putTo}
@@ -187,38 +188,41 @@ module _ (w : World) (addr : ℕ) (bytes : List ℕ) where
   unfolding putTo repliedWith onIt
   put-block h b i f t regs reply e r = rw (e, r, lt-leb addr 3 h) (on-it w _ (block.At i) b f t)
 
-  module _ (ss ps : List ℕ) (e : ss ≡ sites (w .target)) (f : ps ≡ plains (w .target)) (mem plain reply : List ℕ)
-      (m : mem ≡ memAfter (width house) ss (w .mem) (addr - w .target .base) bytes) (p : plain
-      ≡ plainAfter (width house) ss ps (addr - w .target .base) bytes)
-      (r : reply ≡ bytesOf Rmput) where
-    -- the window's bytes, and the table with the slots' bytes taken
-    pub put-window : outcome 0 Nothing
-        (world (withEntries (w .target) (withPlains (w .target .table .entries) plain)) mem (w .regs)) reply
-        ≡ putTo house Window w addr bytes
-    unfolding putTo repliedWith windowWritten
-    put-window = rw (m, p, r, e, f)
+  -- the window's bytes
+  pub put-wrote : (v : World) (reply : List ℕ) → v ≡ windowWritten house w addr bytes → reply ≡ bytesOf Rmput
+      → outcome 0 Nothing v reply ≡ putTo house Window w addr bytes
+  unfolding putTo repliedWith
+  put-wrote v reply e r = rw (e, r)
+
+  module _ (ss ps : List ℕ) (e : ss ≡ sites (w .target)) (f : ps ≡ plains (w .target)) (mem plain : List ℕ)
+      (m : mem ≡ memAfter (width house) ss (w .mem) (addr - w .target .base) bytes)
+      (p : plain ≡ plainAfter (width house) ss ps (addr - w .target .base) bytes) where
+    -- the table with the slots' bytes taken
+    wrote-window : world (withEntries (w .target) (withPlains (w .target .table .entries) plain)) mem (w .regs)
+        ≡ windowWritten house w addr bytes
+    unfolding windowWritten
+    wrote-window = rw (m, p, e, f)
 
     -- where no slot's byte changed, the record is as it was
-    pub put-same : Roomy (w .target .table .entries) → sameList ps plain ≡ true
-        → outcome 0 Nothing (world (w .target) mem (w .regs)) reply ≡ putTo house Window w addr bytes
+    pub wrote-same : Roomy (w .target .table .entries) → sameList ps plain ≡ true
+        → world (w .target) mem (w .regs) ≡ windowWritten house w addr bytes
     unfolding withEntries withTable
-    put-same room same =
+    wrote-same room same =
         let es = w .target .table .entries in
         let kept : withPlains es plain ≡ es = ap (withPlains es) (sym (same-eq ps plain same) ∙ f)
         ∙ with-plains es room in
-        ap (λ (l : List Entry). outcome 0 Nothing (world (withEntries (w .target) l) mem (w .regs)) reply) (sym kept)
-        ∙ put-window
+        ap (λ (l : List Entry). world (withEntries (w .target) l) mem (w .regs)) (sym kept) ∙ wrote-window
 
 -- the same of the record of the code, whose entries take the slots' bytes
-pub put-stored : (t : StoredTarget) (words old regs : List ℕ) (addr : ℕ) (bytes ss ps mem plain reply : List ℕ)
+pub wrote-stored : (t : StoredTarget) (words old regs : List ℕ) (addr : ℕ) (bytes ss ps mem plain : List ℕ)
     → let w = world (viewOf t words) old regs in
-    ss ≡ sites (w .target) → ps ≡ plains (w .target) → mem ≡ memAfter (width house) ss old (addr - t .base) bytes
-    → plain ≡ plainAfter (width house) ss ps (addr - t .base) bytes → reply ≡ bytesOf Rmput
-    → (x : Effect) → x ≡ effectOf 0 Nothing Plain plain reply
-    → requestOutcome t x words mem regs ≡ putTo house Window w addr bytes
-put-stored t words old regs addr bytes ss ps mem plain reply e f m p r x q =
-    rw (q, stored-plains t plain words)
-    (put-window (world (viewOf t words) old regs) addr bytes ss ps e f mem plain reply m p r)
+    ss ≡ sites (w .target) → ps ≡ plains (w .target)
+    → mem ≡ memAfter (width house) ss old (addr - t .base) bytes
+    → plain ≡ plainAfter (width house) ss ps (addr - t .base) bytes
+    → world (viewOf (stored t Plain plain) words) mem regs ≡ windowWritten house w addr bytes
+wrote-stored t words old regs addr bytes ss ps mem plain e f m p =
+    rw (stored-plains t plain words)
+    (wrote-window (world (viewOf t words) old regs) addr bytes ss ps e f mem plain m p)
 
 module _ (w : World) (addr n : ℕ) (d : Data4) where
   pub put-none : n ≡ 0 → (reply : List ℕ) → reply ≡ bytesOf Rmput → outcome 0 Nothing w reply ≡ mput house w addr n d

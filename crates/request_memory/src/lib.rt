@@ -4,6 +4,7 @@ use rules::Answer;
 use step_effect::Change;
 use step_effect::Effect;
 use target::Process;
+use target::Table;
 use target::Target;
 use target_fit::Lookup;
 use target_fit::Scan;
@@ -27,7 +28,8 @@ ghost use Rattle.rules.specs.Outcome.{world, outcome};
 ghost use Rattle.step_effect.specs.Effect.{requestOutcome};
 ghost use Rattle.step_effect.specs.Ready.{Blocks, Lent, Arrays};
 ghost use Rattle.target.specs.View.{viewOf};
-ghost use Rattle.rules.specs.Request.{data9Of, putTo, mget as mgetOf, mput as mputOf};
+ghost use Rattle.rules.specs.Request.{data9Of, windowWritten, putTo, mget as mgetOf, mput as mputOf};
+ghost use Rattle.step_effect.specs.Change.{stored};
 ghost use Rattle.request_memory.specs.Access.{blockOf, blockPart, blockReply};
 
 // The index of the current process's block, or why it may not be used.
@@ -36,7 +38,7 @@ pub enum Block {
     Refused(Reason),
 }
 
-fn block_of(t: Target) -> Block
+pub fn block_of(t: Target) -> Block
     requires { ⌜ t .count ≤ maxProcesses ⌝ }
     requires { ⌜ currentFit (t .selected) (t .current) (t .processes) (t .count) ≡ true ⌝ }
     ensures { λ r. ⌜ ((words : List ℕ) → r ≡ blockOf (viewOf t words)) ⌝ }
@@ -150,6 +152,37 @@ fn put_registers(t: Target, regs: &mut [u8], addr: u32, bytes: &[u8]) -> [u8; 10
     wire::bytes_of(Message::Rmput)
 }
 
+// What a write into the window changes in the record: the plain bytes, where a trap stands.
+pub struct Wrote {
+    pub change: Change,
+    pub plain: [u8; Table::PLAIN],
+}
+
+// Writes bytes into the window, those under a trap to the entry's plain bytes. All writes go through this one.
+pub fn put_window(t: Target, s: Scan, mem: &mut [u8], addr: u32, bytes: &[u8]) -> Wrote
+    requires { ⌜ (length (now mem) ≡ t .size) × (t .base ≤ addr)
+        × (addr + length (now bytes) ≤ t .base + t .size) ⌝ }
+    ensures { λ r. ⌜ ((words regs : List ℕ) → Arrays (viewOf t words) s
+        → world (viewOf (stored t (r .change) (r .plain)) words) (now (mem .exit)) regs
+        ≡ windowWritten house (world (viewOf t words) (now (mem .entry)) regs) addr (now (bytes .entry))) ⌝ }
+{
+    let sites = s.sites;
+    let mut plain = s.plain;
+    let at = (addr - t.base) as usize;
+    memory::write(mem, &sites, &mut plain, at, bytes);
+    let old = s.plain;
+    if common::equal(&old, &plain) {
+        return Wrote {
+            change: Change::Same,
+            plain: [0; Table::PLAIN],
+        };
+    }
+    Wrote {
+        change: Change::Plain,
+        plain: plain,
+    }
+}
+
 // Tmput.
 pub fn mput(
     t: Target,
@@ -182,21 +215,10 @@ pub fn mput(
             )
         }
         Place::Window => {
-            let sites = s.sites;
-            let mut plain = s.plain;
-            let at = (addr - t.base) as usize;
-            memory::write(mem, &sites, &mut plain, at, &bytes[..count]);
-            let old = s.plain;
-            if common::equal(&old, &plain) {
-                return Effect::answering(Answer::Nothing, Change::Same, rmput);
-            }
-            Effect::of(
-                common::ACCEPTED,
-                Answer::Nothing,
-                Change::Plain,
-                plain,
-                rmput,
-            )
+            let w = put_window(t, s, mem, addr, &bytes[..count]);
+            let change = w.change;
+            let plain = w.plain;
+            Effect::of(common::ACCEPTED, Answer::Nothing, change, plain, rmput)
         }
         Place::Nowhere => Effect::answering(Answer::Nothing, Change::Same, rerr(Reason::Inval)),
     }

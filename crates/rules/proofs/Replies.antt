@@ -119,7 +119,7 @@ replies head t mem (trapEvent regs pid block) e = let-pass NoReply (trap-checked
 replies head t mem (scheduleEvent regs pid block) e = let-pass NoReply (schedule-checked head _ pid block) e
 replies head t mem (stateEvent regs pid value) e = let-pass NoReply (state-checked head _ pid value) e
 replies head t mem (restartStep regs reply) e = let-pass Reply (restart-checked head _ reply) e
-replies head t mem (textStep regs bytes reply) e = 
+replies head t mem (textStep regs bytes reply) e =
     text-reply (let-pass (TextOutcome _ _ _ _) (text-checked head _ bytes reply) e)
 
 -- a request of ten bytes has number 0

@@ -7,7 +7,6 @@ use denote.Ref.{now}
 use borrow.Author.Needs.{needs}
 use lib.ListN.{length, take}
 use lib.Seq.{length-take-le}
-use Rattle.target_fit.proofs.Slots.{roomy}
 use Rattle.memory.specs.Head.{house}
 use Rattle.memory.specs.declared.Place.the-variants.{Window}
 use Rattle.memory.proofs.Parts.{named, within-registers, within-window}
@@ -17,7 +16,7 @@ use Rattle.rules.specs.Outcome.{world, Outcome}
 use Rattle.target.specs.View.{elementsOf, viewOf}
 use Rattle.rules.specs.Request.{putTo, mput}
 use Rattle.wire.specs.Message.{bytes4}
-use Rattle.request_memory.proofs.Laws.{refuses, put-stored, put-same, scan-plain, length-after}
+use Rattle.request_memory.proofs.Laws.{refuses, put-wrote}
 use Rattle.request_memory.proofs.Laws.{put-none, put-to}
 use Rattle.request_memory.proofs.mput.Statement.{statement}
 use Rattle.request_memory.proofs.mput.Tie as tie
@@ -64,90 +63,34 @@ answering-requires-2 c κs = search needs
 enum-told-2 : tie.Need-enum-told-2
 enum-told-2 c = search needs
 
+-- where the code starts, from where the window is named
+abbrev start : tie.After-enum-told2 → tie.Start
+start e = e .before .before .before .before .before .before .before
+
 -- the bytes lie in the window
-inside : (c : tie.After-enum-told2)
-    → let a = c .before .before .before .before .before .before .before .args in
-    (a .t .base ≤ a .addr) × (a .addr + a .n ≤ a .t .base + a .t .size)
-inside c =
-    let k = c .before .before in
-    let a = k .before .before .before .before .before .args in
+inside : (e : tie.After-enum-told2)
+    → let a = start e .args in (a .t .base ≤ a .addr) × (a .addr + a .n ≤ a .t .base + a .t .size)
+inside e =
+    let k = e .before .before in
+    let a = start e .args in
     within-window (a .t .base) (a .t .size) (a .addr) (a .n)
-    (named _ _ _ _ _ _ (k .place-of .ensures) (c .enum-told2 .given .1))
-
-sub-at : tie.Need-sub-at
-sub-at c = inside (c .before .before .before) .0
-
-cast-at : tie.Need-cast-at
-cast-at c = search needs
+    (named _ _ _ _ _ _ (k .place-of .ensures) (e .enum-told2 .given .1))
 
 array-share-prefix-bytes-2 : tie.Need-array-share-prefix-bytes-2
 array-share-prefix-bytes-2 c = search needs
 
-slice-aggregate-write : tie.Need-slice-aggregate-write
-slice-aggregate-write c = sym (length-take-le _ _ (omega arith))
+slice-aggregate-put-window : tie.Need-slice-aggregate-put-window
+slice-aggregate-put-window c = sym (length-take-le _ _ (omega arith))
 
-write-requires : tie.Need-write-requires
+put-window-requires : tie.Need-put-window-requires
 unfolding bytes4
-write-requires c κs =
-    let e = c .before .before .before .before .before .before .before in
-    let s = e .before .before .before .before .before .before .before in
+put-window-requires c κs =
+    let e = c .before .before in
+    let s = start e in
     let a = s .args in
     let h = inside e in
     let z = length-take-le (a .n) (bytes4 (a .d)) (s .pre .1) in
-    omega (arith, s .pre .0 .1)
-
--- where the code has its reply, and where it starts, from where it has written
-abbrev replied : tie.After-write → tie.After-bytes-of
-replied p = p .before .before .before .before .before .before .before .before .before .before .before .before
-
-abbrev start : tie.After-write → tie.Start
-start p = replied p .before .before .before
-
--- the window is the place that the address names
-to-window : (p : tie.After-write) → let a = start p .args in
-    (words : List ℕ) → let w = world (viewOf (a .t) words) (now (a .mem)) (now (a .regs)) in
-    (x : Outcome) → x ≡ putTo house Window w (a .addr) (take (a .n) (bytes4 (a .d))) → x
-    ≡ mput house w (a .addr) (a .n) (a .d)
-to-window p words x h =
-    let e = p .before .before .before .before .before .before .before .before in
-    let k = e .before .before in
-    put-to _ _ _ _ (k .before .if1 .left) Window (named _ _ _ _ _ _ (k .place-of .ensures) (e .enum-told2 .given .1)) x
-    h
-
-plain-room : (p : tie.After-write) → 32 ≡ length (start p .args .s .plain)
-plain-room p = let s = start p in scan-plain (s .args .s) _ (s .good .1 .0)
-
-slice-aggregate-equal : tie.Need-slice-aggregate-equal
-slice-aggregate-equal c = plain-room (c .before .before .before .before)
-
-slice-aggregate-equal-2 : tie.Need-slice-aggregate-equal-2
-slice-aggregate-equal-2 c =
-    let p = c .before .before .before .before .before in
-    omega (arith, plain-room p, length-after 2 _ _ _ _ _ (p .write .ensures .1))
-
-equal-requires : tie.Need-equal-requires
-equal-requires c κs = search needs
-
-answering-requires-3 : tie.Need-answering-requires-3
-answering-requires-3 c κs = search needs
-
-same-length : tie.Need-same-length
-same-length c = search needs
-
--- no plain byte changed
-returns-2 : tie.Need-returns-2
-unfolding bytes4 stored
-returns-2 c words f =
-    let q = c .before .before in
-    let p = q .before .before .before .before .before .before in
-    let s = start p in
-    let a = s .args in
-    rw (c .answering3 .ensures)
-    (to-window p words _
-    (put-same (world (viewOf (a .t) words) (now (a .mem)) (now (a .regs))) (a .addr) _ _ _ (f .sites) (f .plain)
-    _ _ _
-    (p .write .ensures .0) (p .write .ensures .1) (replied p .bytes-of .ensures)
-    (roomy (a .t) _ (elementsOf words) (s .good .0)) (sym (q .equal .ensures) ∙ c .before .if2 .taken)))
+    (s .pre .0 .1, h .0, omega arith)
 
 of-requires : tie.Need-of-requires
 of-requires c κs = search needs
@@ -158,15 +101,15 @@ enum-told-3 c = search needs
 rerr-requires : tie.Need-rerr-requires
 rerr-requires c κs = search needs
 
-answering-requires-4 : tie.Need-answering-requires-4
-answering-requires-4 c κs = search needs
+answering-requires-3 : tie.Need-answering-requires-3
+answering-requires-3 c κs = search needs
 
-same-length-2 : tie.Need-same-length-2
-same-length-2 c = search needs
+same-length : tie.Need-same-length
+same-length c = search needs
 
-returns-3 : tie.Need-returns-3
+returns-2 : tie.Need-returns-2
 unfolding bytes4 stored
-returns-3 c words f =
+returns-2 c words f =
     let p = c .before .before .before in
     let e = p .before .before .before in
     let k = e .before .before in
@@ -177,25 +120,28 @@ returns-3 c words f =
     (named _ _ _ _ _ _ (k .place-of .ensures) (e .enum-told .given .1)) _
     (p .put-registers .ensures words (now (a .mem))))
 
-same-length-3 : tie.Need-same-length-3
-same-length-3 c = search needs
+same-length-2 : tie.Need-same-length-2
+same-length-2 c = search needs
+
+returns-3 : tie.Need-returns-3
+unfolding bytes4
+returns-3 c words f =
+    let p = c .before .before .before .before in
+    let e = p .before .before .before in
+    let k = e .before .before in
+    let a = start e .args in
+    rw (c .of .ensures)
+    (put-to (world (viewOf (a .t) words) (now (a .mem)) (now (a .regs))) (a .addr) (a .n) (a .d)
+    (k .before .if1 .left) Window
+    (named _ _ _ _ _ _ (k .place-of .ensures) (e .enum-told2 .given .1)) _
+    (put-wrote _ _ _ _ _ (p .put-window .ensures words (now (a .regs)) f)
+    (k .before .before .bytes-of .ensures)))
 
 returns-4 : tie.Need-returns-4
-unfolding bytes4
-returns-4 c words f =
-    let p = c .before .before .before .before .before .before .before .before in
-    let s = start p in
-    let a = s .args in
-    to-window p words _
-    (put-stored (a .t) words (now (a .mem)) (now (a .regs)) (a .addr) _ _ _ _ _ _ (f .sites) (f .plain)
-    (p .write .ensures .0) (p .write .ensures .1) (replied p .bytes-of .ensures)
-    _ (c .of .ensures))
-
-returns-5 : tie.Need-returns-5
 unfolding putTo stored
-returns-5 c words f =
+returns-4 c words f =
     let k = c .before .before .before .before in
-    rw (c .answering4 .ensures)
+    rw (c .answering3 .ensures)
     (put-to _ _ _ _ (k .before .if1 .left) _
     (named _ _ _ _ _ _ (k .place-of .ensures) (c .before .before .enum-told3 .given .1)) _
     (refuses _ _ _ (c .before .rerr .ensures)))
@@ -214,23 +160,15 @@ mput-spec =
     put-registers-requires
     answering-requires-2
     enum-told-2
-    sub-at
-    cast-at
     array-share-prefix-bytes-2
-    slice-aggregate-write
-    write-requires
-    slice-aggregate-equal
-    slice-aggregate-equal-2
-    equal-requires
-    answering-requires-3
-    same-length
-    returns-2
+    slice-aggregate-put-window
+    put-window-requires
     of-requires
     enum-told-3
     rerr-requires
-    answering-requires-4
+    answering-requires-3
+    same-length
+    returns-2
     same-length-2
     returns-3
-    same-length-3
-    returns-4
-    returns-5)
+    returns-4)

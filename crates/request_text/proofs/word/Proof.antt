@@ -1,0 +1,121 @@
+-- `request_text::word` meets its contract: unaligned, outside the window, read, or written. Assumes nothing.
+use borrow.Author.Needs.{needs}
+use mathlib.Core.Path.{_≡_, sym, ap, _∙_}
+use Prim.Native.Nat.{_+_, _-_, _≤_}
+use native.Mathlib.Omega.{arith}
+use borrow.Author.Tests.{not-true, not-false}
+use denote.Ref.{now}
+use lib.ListN.{length}
+use Rattle.rules.specs.Text.{completed}
+use Rattle.step_effect.specs.Change.{stored}
+use Rattle.request_text.proofs.Laws.{word-unaligned, word-outside, word-found, fetched-inside}
+use Rattle.request_text.proofs.word.Statement.{statement}
+use Rattle.request_text.proofs.word.Tie as tie
+
+-- where the word is fetched, and where the code starts, from where it is to be written
+abbrev fetch-at : tie.Else2 → tie.After-fetch
+fetch-at e = e .before .before .before .before
+
+abbrev begins : tie.After-fetch → tie.Start
+begins x = x .before .before .before .before .before .before .before .before .before
+
+kept-requires : tie.Need-kept-requires
+kept-requires c κs = search needs
+
+returns : tie.Need-returns
+unfolding stored
+returns c words regs f = rw (c .kept .ensures) (word-unaligned _ _ _ (c .before .if1 .taken))
+
+fetch-requires : tie.Need-fetch-requires
+fetch-requires c κs = search needs
+
+enum-known-found : tie.Need-enum-known-found
+enum-known-found c = search needs
+
+enum-told : tie.Need-enum-told
+enum-told c = search needs
+
+kept-requires-2 : tie.Need-kept-requires-2
+kept-requires-2 c κs = search needs
+
+same-length : tie.Need-same-length
+same-length c = search needs
+
+returns-2 : tie.Need-returns-2
+unfolding stored
+returns-2 c words regs f =
+    let e = c .before in
+    let x = e .before .before in
+    let b = x .before .before .before .before .before .before in
+    rw (c .kept2 .ensures) (word-outside _ _ _ (b .if1 .left) _ _ (f .sites) (f .plain) _ (x .fetch .ensures) (e .enum-told .given .1))
+
+kept-requires-3 : tie.Need-kept-requires-3
+kept-requires-3 c κs = search needs
+
+same-length-2 : tie.Need-same-length-2
+same-length-2 c = search needs
+
+returns-3 : tie.Need-returns-3
+unfolding stored
+returns-3 c words regs f =
+    let k = c .before .before in
+    let x = k .before .before .before in
+    let b = x .before .before .before .before .before .before in
+    rw (c .kept3 .ensures, not-true (begins x .args .writes) (c .before .if2 .taken))
+    (word-found _ _ _ (b .if1 .left) _ _ (f .sites) (f .plain) _ (x .fetch .ensures) _ (k .before .found .given .1))
+
+-- the word lies in the window
+inside : (e : tie.Else2) → let a = begins (fetch-at e) .args in
+    (a .t .base ≤ a .p .third) × (a .p .third - a .t .base + 4 ≤ length (now (a .mem)))
+inside e =
+    let x = fetch-at e in
+    fetched-inside _ _ _ _ _ _ (sym (x .fetch .ensures) ∙ e .before .before .found .given .1)
+
+low-first-requires : tie.Need-low-first-requires
+low-first-requires c κs = search needs
+
+slice-aggregate-put-window : tie.Need-slice-aggregate-put-window
+slice-aggregate-put-window c = search needs
+
+put-window-requires : tie.Need-put-window-requires
+put-window-requires c κs =
+    let e = c .before .before .before in
+    let s = begins (fetch-at e) in
+    let i = inside e in
+    (s .pre, i .0, omega (arith, s .pre, i .0, i .1))
+
+same-length-3 : tie.Need-same-length-3
+same-length-3 c = search needs
+
+returns-4 : tie.Need-returns-4
+returns-4 c words regs f =
+    let p = c .before .before .before in
+    let l = p .before .before .before in
+    let e = l .before in
+    let x = fetch-at e in
+    let b = x .before .before .before .before .before .before in
+    rw (not-false (begins x .args .writes) (e .if2 .left), ← l .low-first .ensures)
+    (ap (completed _) (p .put-window .ensures words regs f)
+    ∙ word-found _ _ _ (b .if1 .left) _ _ (f .sites) (f .plain) _ (x .fetch .ensures) _
+    (e .before .before .found .given .1))
+
+pub word-spec : {M : Type 1} → statement M
+word-spec =
+    tie.close
+    (tie.spec
+    kept-requires
+    returns
+    fetch-requires
+    enum-known-found
+    enum-told
+    kept-requires-2
+    same-length
+    returns-2
+    kept-requires-3
+    same-length-2
+    returns-3
+    low-first-requires
+    slice-aggregate-put-window
+    put-window-requires
+    same-length-3
+    returns-4)
