@@ -27,6 +27,7 @@ fn packed(number: u8, answer: Answer) -> u32
         Answer::Pass(x, y, _, _) => common::word(y, x, 2, number),
         Answer::Yes => common::word(0, 0, 1, number),
         Answer::No => common::word(0, 0, 0, number),
+        Answer::Text(error, filled) => common::word(0, filled, error, number),
     }
 }
 

@@ -15,7 +15,7 @@ use Rattle.rules.specs.Claims.{NoReply, RightReply}
 use Rattle.rules.proofs.Replies.{Checked, held, passed, trap-checked, schedule-checked, state-checked, replies}
 use Rattle.rules.specs.Step.{Step, request, trapEvent, scheduleEvent, stateEvent, restartStep, stepOf}
 use Rattle.rules.specs.declared.Answer.{Answer}
-use Rattle.rules.specs.declared.Answer.the-variants.{Nothing, Stop, Pass, Yes, No}
+use Rattle.rules.specs.declared.Answer.the-variants.{Nothing, Stop, Pass, Yes, No, Text}
 use Rattle.target.specs.declared.Target.{Target as StoredTarget}
 use Rattle.target.specs.View.{Target, viewOf}
 use Rattle.step.specs.Kinds.{leaving, stepBy}
@@ -34,6 +34,7 @@ length-answer (Stop id) = omega arith
 length-answer (Pass b0 b1 b2 b3) = omega arith
 length-answer Yes = omega arith
 length-answer No = omega arith
+length-answer (Text error filled) = omega arith
 
 abbrev Short : Outcome → Type 0
 Short o = length (o .reply) ≤ messageBytes

@@ -110,6 +110,11 @@ fn show_answer(answer: Answer, out: &mut [u8]) -> usize
             out[0] = 0;
             1
         }
+        Answer::Text(error, filled) => {
+            out[0] = error;
+            out[1] = filled;
+            2
+        }
     }
 }
 

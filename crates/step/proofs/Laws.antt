@@ -18,6 +18,8 @@ use Rattle.request_parse.specs.Request.{parseOf}
 use Rattle.request_parse.specs.declared.Parsed.{Parsed}
 use Rattle.step_effect.specs.Change.{stored}
 use Rattle.rules.specs.Event.{trap, schedule, state, restart}
+use Rattle.rules.specs.Text.{textRequest}
+use Rattle.rules.specs.Step.{textStepOf}
 use Rattle.rules.specs.Outcome.{World, world, Outcome, refused, repliedWith}
 use Rattle.step_effect.specs.Effect.{effectOf, effectOutcome, requestOutcome}
 use Rattle.step_effect.specs.Ready.{Ready, ReadyAll, Arrays}
@@ -96,16 +98,18 @@ module _ (kind : StepKind) (w : World) (pid value : ℕ) (input reply : List ℕ
   bodyOf step.Schedule = leaving reply (schedule w pid input)
   bodyOf step.State = leaving reply (state w pid value)
   bodyOf step.Restart = restart house w
+  bodyOf step.Text = textRequest house w input reply
 
   -- the tests come first, whatever the kind
   tested-at : (k : StepKind) → checked house w (lentRight k (length input) (length reply)) reply (bodyOf k)
       ≡ stepBy k w pid value input reply
-  unfolding lentRight stepBy requestOf trapOf scheduleOf stateOf restartOf
+  unfolding lentRight stepBy requestOf trapOf scheduleOf stateOf restartOf textStepOf
   tested-at step.Request = refl
   tested-at step.Trap = leaving-checked w _ reply _
   tested-at step.Schedule = leaving-checked w _ reply _
   tested-at step.State = leaving-checked w _ reply _
   tested-at step.Restart = refl
+  tested-at step.Text = refl
 
   tested : checked house w (lentRight kind (length input) (length reply)) reply (bodyOf kind) ≡ stepBy kind w pid value
       input reply

@@ -38,9 +38,10 @@ pub enum StepKind {
     Schedule,
     State,
     Restart,
+    Text,
 }
 
-// A request and a reply are ten bytes, a block 136.
+// A request and a reply are ten bytes, a block 136; texts have numbers of their own.
 fn lent_right(kind: StepKind, input: usize, reply: usize) -> bool
     ensures { λ r. ⌜ r ≡ lentRight kind input reply ⌝ }
 {
@@ -50,6 +51,7 @@ fn lent_right(kind: StepKind, input: usize, reply: usize) -> bool
         StepKind::Schedule => input == Process::BLOCK,
         StepKind::State => true,
         StepKind::Restart => reply == 10,
+        StepKind::Text => true,
     }
 }
 
@@ -147,5 +149,6 @@ pub fn step(
         StepKind::Schedule => event::schedule(t, regs, pid, input),
         StepKind::State => event::state(t, pid, value),
         StepKind::Restart => restart(s, mem, reply),
+        StepKind::Text => request_text::text(t, s, mem, regs, input, reply),
     }
 }

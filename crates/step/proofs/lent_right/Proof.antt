@@ -20,6 +20,9 @@ enum-told-4 c = search needs
 enum-told-5 : tie.Need-enum-told-5
 enum-told-5 c = search needs
 
+enum-told-6 : tie.Need-enum-told-6
+enum-told-6 c = search needs
+
 returns : tie.Need-returns
 unfolding lentRight
 returns c = rw (c .before .enum-told .given .1, eq-eqb _ 10 (c .if1 .taken))
@@ -44,6 +47,10 @@ returns-6 : tie.Need-returns-6
 unfolding lentRight
 returns-6 c = rw (c .enum-told5 .given .1)
 
+returns-7 : tie.Need-returns-7
+unfolding lentRight
+returns-7 c = rw (c .enum-told6 .given .1)
+
 pub lent-right-spec : {M : Type 1} → statement M
 lent-right-spec =
     tie.close
@@ -53,9 +60,11 @@ lent-right-spec =
     enum-told-3
     enum-told-4
     enum-told-5
+    enum-told-6
     returns
     returns-2
     returns-3
     returns-4
     returns-5
-    returns-6)
+    returns-6
+    returns-7)

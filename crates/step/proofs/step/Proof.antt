@@ -10,7 +10,7 @@ use Rattle.memory.specs.Head.{house}
 use Rattle.event.proofs.Laws.{refuses, keeps}
 use Rattle.rules.specs.Outcome.{world}
 use Rattle.step_effect.specs.Ready.{ReadyAll}
-use Rattle.step_effect.proofs.Laws.{ready-arrays}
+use Rattle.step_effect.proofs.Laws.{ready-arrays, ready-lent}
 use Rattle.target.specs.View.{viewOf}
 use Rattle.step.specs.Kinds.{lentRight}
 use Rattle.rules.specs.Step.{sized}
@@ -136,6 +136,15 @@ restart-requires c κs =
     let m = c .before .before in
     lent-restart _ _ _ (lent (m .before .before .before)) (m .enum-told5 .given .1)
 
+enum-told-6 : tie.Need-enum-told-6
+enum-told-6 c = search needs
+
+text-requires : tie.Need-text-requires
+text-requires c κs =
+    let m = c .before .before .before in
+    let ok = ready (m .before .before) in
+    ready-lent (start (right-sized (m .before .before .before) .before) .args .t) _ _ _ (ok .0) _ (ok .1)
+
 same-length-2 : tie.Need-same-length-2
 same-length-2 c = search needs
 
@@ -217,6 +226,26 @@ returns-8 c =
       accepted-any (r .restart .result) (restart-number _ _ _ _ _ table (r .restart .result) _ _ e),
     )
 
+same-length-12 : tie.Need-same-length-12
+same-length-12 c = search needs
+
+same-length-13 : tie.Need-same-length-13
+same-length-13 c = search needs
+
+same-length-14 : tie.Need-same-length-14
+same-length-14 c = search needs
+
+returns-9 : tie.Need-returns-9
+returns-9 c =
+    let r = c .before .before .before .before .before .before in
+    let m = r .before .before .before .before in
+    let a = start (right-sized (m .before .before .before) .before) .args in
+    let ok = ready (m .before .before) in (
+      r .text .ensures .0 _ (ready-arrays (a .t) _ _ _ (ok .0))
+          ∙ taken _ _ _ _ _ _ (lent (m .before .before .before)) _ ok _ (m .enum-told6 .given .1),
+      λ n. (r .text .ensures .1 n, refl),
+    )
+
 pub step-spec : {M : Type 1} → statement M
 step-spec =
     tie.close
@@ -241,6 +270,8 @@ step-spec =
     state-requires
     enum-told-5
     restart-requires
+    enum-told-6
+    text-requires
     same-length-2
     same-length-3
     same-length-4
@@ -255,4 +286,8 @@ step-spec =
     returns-7
     same-length-10
     same-length-11
-    returns-8)
+    returns-8
+    same-length-12
+    same-length-13
+    same-length-14
+    returns-9)
