@@ -44,7 +44,7 @@ use denote.Triple.Clauses.{Clauses, closing, ensured, lasts}
 use denote.Triple.Walked.{says, Stays, stay-none-slice, gave-ref, walkOf, AllGo, Walks, ends-at, walked, walk-meets}
 use denote.Exit.{yes}
 use Rattle.step.specs.declared.StepKind.{StepKind}
-use Rattle.step.specs.declared.StepKind.the-variants.{Request, Trap, Schedule, State, Restart}
+use Rattle.step.specs.declared.StepKind.the-variants.{Request, Trap, Schedule, State, Restart, Text}
 use Rattle.step.proofs.StepKind as K
 use Rattle.step.proofs.StepKind.Laws as K′
 use Rattle.target.specs.declared.Target.{Target}
@@ -85,6 +85,7 @@ built-is Trap = refl
 built-is Schedule = refl
 built-is State = refl
 built-is Restart = refl
+built-is Text = refl
 
 tag-fits : (k : StepKind) → Holds (ltb (tag k) (2 ^ 8))
 tag-fits Request = tt
@@ -92,6 +93,7 @@ tag-fits Trap = tt
 tag-fits Schedule = tt
 tag-fits State = tt
 tag-fits Restart = tt
+tag-fits Text = tt
 
 kind-is : (k : StepKind) → Is K.the-row k (kind-val k ∷ [])
 kind-is Request = EL.owes K.the-type K′.the-laws Request tt
@@ -99,6 +101,7 @@ kind-is Trap = EL.owes K.the-type K′.the-laws Trap tt
 kind-is Schedule = EL.owes K.the-type K′.the-laws Schedule tt
 kind-is State = EL.owes K.the-type K′.the-laws State tt
 kind-is Restart = EL.owes K.the-type K′.the-laws Restart tt
+kind-is Text = EL.owes K.the-type K′.the-laws Text tt
 
 -- the MIR of such a function
 abbrev pub passes-on : Name → StepKind → Fn

@@ -197,6 +197,35 @@ pub extern "C" fn sanirvoq_step_restart(
     )
 }
 
+// A text request: the bytes of input, answered at the front of reply, which has at least 34.
+#[no_mangle]
+pub extern "C" fn sanirvoq_step_text(
+    t: &mut Target,
+    places: &mut [u32; Table::WORDS],
+    mem: &mut [u8],
+    regs: &mut [u8],
+    pid: u32,
+    value: u8,
+    input: &[u8],
+    reply: &mut [u8],
+) -> u32
+    ensures { λ r. ⌜ Stepped kind.Text (now (t .entry)) (now (places .entry)) (now (mem .entry)) (now (regs .entry))
+        pid value (now (input .entry)) (now (reply .entry)) r (now (t .exit)) (now (places .exit)) (now (mem .exit))
+        (now (regs .exit)) (now (reply .exit)) ⌝ }
+{
+    capi_lent::step(
+        t,
+        places,
+        StepKind::Text,
+        mem,
+        regs,
+        pid,
+        value,
+        input,
+        reply,
+    )
+}
+
 // Writes a message's ten bytes.
 #[no_mangle]
 pub extern "C" fn sanirvoq_write(message: Fields, buffer: &mut [u8]) -> u8

@@ -17,7 +17,7 @@ use Rattle.program_run.specs.Encoding.{stepMost, listedKind, bodyOf, enc
 use Rattle.program_run.specs.Laws.{remaining, RoomEnough, FewLeft}
 use Rattle.program_run.specs.Run.{endBytes, goesOn, Run, ended, once, followedBy, onKind, next, run, runOf}
 use Rattle.program_run.specs.Run.{runWithin}
-use Rattle.program_run.proofs.Steps.{shown-most, body-most}
+use Rattle.program_run.proofs.Steps.{few-encoded, shown-most, body-most}
 
 -- ---- more steps than the input's bytes are never needed
 
@@ -146,7 +146,8 @@ output-most =
     (omega (
       arith,
       length-drop (bodyOf kind) l,
-      shown-most (w .target) (w .mem) (encoded kind (take (bodyOf kind) l) (w .regs)),
+      shown-most (w .target) (w .mem) (encoded kind (take (bodyOf kind) l) (w .regs))
+          (few-encoded kind (take (bodyOf kind) l) (w .regs)),
     )))
 
 not-full : (w : World) (input : List ℕ) → runOf w input .end ≡ Full → ⊥

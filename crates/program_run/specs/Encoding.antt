@@ -7,9 +7,9 @@ use Rattle.common.specs.Bytes.{wordAt}
 use Rattle.common.specs.Keys.{arm, byKeys}
 use Rattle.memory.specs.Head.{house}
 use Rattle.rules.specs.Outcome.{World, Outcome}
-use Rattle.rules.specs.Step.{Step, request, trapEvent, scheduleEvent, stateEvent, restartStep, stepOf}
+use Rattle.rules.specs.Step.{Step, request, trapEvent, scheduleEvent, stateEvent, restartStep, textStep, stepOf}
 use Rattle.step.specs.declared.StepKind.{StepKind}
-use Rattle.step.specs.declared.StepKind.the-variants.{Request, Trap, Schedule, State, Restart}
+use Rattle.step.specs.declared.StepKind.the-variants.{Request, Trap, Schedule, State, Restart, Text}
 use Rattle.program_run.specs.declared.KindByte.{KindByte}
 use Rattle.program_run.specs.declared.KindByte.the-variants.{Listed, Unlisted}
 
@@ -41,13 +41,15 @@ listedKind byte =
     arm (4 ∷ []) (Listed State) ∷ arm (5 ∷ []) (Listed Restart) ∷ [])
     Unlisted byte
 
--- how many bytes follow: "request (10), trap (pid 4, block 136), schedule (4, 136), state (4, 1), restart (0)"
+-- how many bytes follow: "request (10), trap (pid 4, block 136), schedule (4, 136), state (4, 1), restart (0)". No byte
+-- lists a text step: "Over the program only Two, Six, Seven and Thirteen change any output" (READINGS 32)
 unfoldable pub bodyOf : StepKind → ℕ
 bodyOf Request = messageBytes
 bodyOf Trap = pidBytes + blockSize
 bodyOf Schedule = pidBytes + blockSize
 bodyOf State = pidBytes + 1
 bodyOf Restart = 0
+bodyOf Text = 0
 
 -- the step that a kind and its bytes encode, "pids high-order first", with the register area that is lent to it and a
 -- reply buffer of zeros
@@ -57,6 +59,7 @@ encoded Trap body regs = trapEvent regs (wordAt body 0) (drop pidBytes body)
 encoded Schedule body regs = scheduleEvent regs (wordAt body 0) (drop pidBytes body)
 encoded State body regs = stateEvent regs (wordAt body 0) (getD body pidBytes 0)
 encoded Restart body regs = restartStep regs (replicate messageBytes 0)
+encoded Text body regs = textStep regs body (replicate messageBytes 0)
 
 unfoldable pub stepOn : World → StepKind → List ℕ → Outcome
 stepOn w kind body = stepOf house (w .target) (w .mem) (encoded kind body (w .regs))

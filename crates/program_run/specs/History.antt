@@ -26,7 +26,7 @@ unfoldable pub afterAction : Setup → Moment → Action → Moment
 afterAction s m (step e) =
     let o = stepOf house (m .target) (m .mem) e in
     record {
-      book = fed s (m .book) e (o .number) (o .answer) (o .reply);
+      book = fed house s (m .book) e (o .number) (o .answer) (o .reply);
       target = o .after .target;
       mem = o .after .mem;
     }

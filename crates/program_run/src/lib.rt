@@ -81,6 +81,7 @@ fn body_of(kind: StepKind) -> usize
         StepKind::Schedule => PID + Process::BLOCK,
         StepKind::State => PID + 1,
         StepKind::Restart => 0,
+        StepKind::Text => 0,
     }
 }
 
@@ -233,6 +234,7 @@ fn step(
         StepKind::Schedule => event(t, places, mem, regs, kind, body, out),
         StepKind::State => event(t, places, mem, regs, kind, body, out),
         StepKind::Restart => replied(t, places, mem, regs, kind, body, out),
+        StepKind::Text => replied(t, places, mem, regs, kind, body, out),
     }
 }
 

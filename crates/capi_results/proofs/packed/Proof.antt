@@ -36,6 +36,12 @@ enum-told-3 c = search needs
 word-requires-5 : tie.Need-word-requires-5
 word-requires-5 c κs = search needs
 
+enum-known-answer-3 : tie.Need-enum-known-answer-3
+enum-known-answer-3 c = search needs
+
+word-requires-6 : tie.Need-word-requires-6
+word-requires-6 c κs = search needs
+
 returns : tie.Need-returns
 unfolding resultOf packed answerBytes
 returns c = c .word .ensures ∙ sym (ap (resultOf _) (c .before .enum-told .given .1))
@@ -56,6 +62,10 @@ returns-5 : tie.Need-returns-5
 unfolding resultOf packed answerBytes
 returns-5 c = c .word5 .ensures ∙ sym (ap (resultOf _) (c .before .enum-told3 .given .1))
 
+returns-6 : tie.Need-returns-6
+unfolding resultOf packed answerBytes
+returns-6 c = c .word6 .ensures ∙ sym (ap (resultOf _) (c .before .before .answer3 .given .1))
+
 pub packed-spec : {M : Type 1} → statement M
 packed-spec =
     tie.close
@@ -70,8 +80,11 @@ packed-spec =
     word-requires-4
     enum-told-3
     word-requires-5
+    enum-known-answer-3
+    word-requires-6
     returns
     returns-2
     returns-3
     returns-4
-    returns-5)
+    returns-5
+    returns-6)

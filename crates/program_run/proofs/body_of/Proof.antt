@@ -28,6 +28,9 @@ add-result-3 c = search needs
 enum-told-5 : tie.Need-enum-told-5
 enum-told-5 c = search needs
 
+enum-told-6 : tie.Need-enum-told-6
+enum-told-6 c = search needs
+
 returns : tie.Need-returns
 unfolding bodyOf
 returns c = search needs
@@ -48,6 +51,10 @@ returns-5 : tie.Need-returns-5
 unfolding bodyOf
 returns-5 c = search needs
 
+returns-6 : tie.Need-returns-6
+unfolding bodyOf
+returns-6 c = search needs
+
 pub body-of-spec : {M : Type 1} → statement M
 body-of-spec =
     tie.close
@@ -60,8 +67,10 @@ body-of-spec =
     enum-told-4
     add-result-3
     enum-told-5
+    enum-told-6
     returns
     returns-2
     returns-3
     returns-4
-    returns-5)
+    returns-5
+    returns-6)

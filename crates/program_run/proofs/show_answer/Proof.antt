@@ -47,6 +47,15 @@ enum-told-3 c = search needs
 slice-write-out-7 : tie.Need-slice-write-out-7
 slice-write-out-7 c = search needs
 
+enum-known-answer-3 : tie.Need-enum-known-answer-3
+enum-known-answer-3 c = search needs
+
+slice-write-out-8 : tie.Need-slice-write-out-8
+slice-write-out-8 c = search needs
+
+slice-write-out-9 : tie.Need-slice-write-out-9
+slice-write-out-9 c = simp length-set (omega arith)
+
 returns : tie.Need-returns
 unfolding answerBytes
 returns c = writes-stored _ _ [] (ap (answerBytes house) (c .enum-told .given .1)) (omega arith)
@@ -82,6 +91,15 @@ returns-5 : tie.Need-returns-5
 unfolding answerBytes
 returns-5 c = writes-stored _ _ (0 ∷ []) (ap (answerBytes house) (c .enum-told3 .given .1)) (omega arith)
 
+same-length-5 : tie.Need-same-length-5
+same-length-5 c = search needs
+
+returns-6 : tie.Need-returns-6
+unfolding answerBytes
+returns-6 c =
+    let p = c .before .answer3 .given in
+    writes-stored _ _ (p .0 .0 ∷ p .0 .1 .0 ∷ []) (ap (answerBytes house) (p .1)) (omega arith)
+
 pub show-answer-spec : {M : Type 1} → statement M
 show-answer-spec =
     tie.close
@@ -98,6 +116,9 @@ show-answer-spec =
     slice-write-out-6
     enum-told-3
     slice-write-out-7
+    enum-known-answer-3
+    slice-write-out-8
+    slice-write-out-9
     returns
     same-length
     returns-2
@@ -106,4 +127,6 @@ show-answer-spec =
     same-length-3
     returns-4
     same-length-4
-    returns-5)
+    returns-5
+    same-length-5
+    returns-6)

@@ -6,7 +6,7 @@ use borrow.Author.Needs.{needs}
 use lib.ListN.{length}
 use Rattle.step.specs.declared.StepKind.the-variants.{Trap, Schedule, State}
 use Rattle.program_run.specs.Encoding.{bodyOf}
-use Rattle.program_run.proofs.Steps.{length-known, is-request, is-trap, is-schedule, is-state, is-restart}
+use Rattle.program_run.proofs.Steps.{length-known, is-request, is-trap, is-schedule, is-state, is-restart, is-text}
 use Rattle.program_run.proofs.step.Statement.{statement}
 use Rattle.program_run.proofs.step.Tie as tie
 
@@ -54,6 +54,12 @@ enum-told-5 c = search needs
 
 replied-requires-2 : tie.Need-replied-requires-2
 replied-requires-2 c κs = search needs
+
+enum-told-6 : tie.Need-enum-told-6
+enum-told-6 c = search needs
+
+replied-requires-3 : tie.Need-replied-requires-3
+replied-requires-3 c κs = search needs
 
 same-length : tie.Need-same-length
 same-length c = search needs
@@ -135,6 +141,22 @@ returns-5 c =
     let a = m .before .before .before .before .before .before .args in
     rw (is-restart _ (a .kind) (now (a .body)) (m .enum-told5 .given .1)) at (k .replied2 .ensures)
 
+same-length-16 : tie.Need-same-length-16
+same-length-16 c = search needs
+
+same-length-17 : tie.Need-same-length-17
+same-length-17 c = search needs
+
+same-length-18 : tie.Need-same-length-18
+same-length-18 c = search needs
+
+returns-6 : tie.Need-returns-6
+returns-6 c =
+    let k = c .before .before .before .before .before .before in
+    let m = k .before .before .before .before .before in
+    let a = m .before .before .before .before .before .before .args in
+    rw (is-text _ (a .kind) (now (a .body)) (m .enum-told6 .given .1)) at (k .replied3 .ensures)
+
 pub step-spec : {M : Type 1} → statement M
 step-spec =
     tie.close
@@ -149,6 +171,8 @@ step-spec =
     event-requires-3
     enum-told-5
     replied-requires-2
+    enum-told-6
+    replied-requires-3
     same-length
     same-length-2
     same-length-3
@@ -168,4 +192,8 @@ step-spec =
     same-length-13
     same-length-14
     same-length-15
-    returns-5)
+    returns-5
+    same-length-16
+    same-length-17
+    same-length-18
+    returns-6)
