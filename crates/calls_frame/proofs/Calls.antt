@@ -1,6 +1,6 @@
 -- How long a call of frames is, and what it answers, by what its bytes are. Assumes nothing.
 use mathlib.Core.Path.{_≡_, refl, sym, ap, _∙_}
-use mathlib.Core.Bool.{Bool, true, false, cond, _&&_, _||_}
+use mathlib.Core.Bool.{Bool, true, false, _&&_, _||_}
 use mathlib.Core.List.{List, [], _∷_}
 use Prim.Native.Nat.{ℕ, _+_, _<_, _≤_}
 use native.Mathlib.Omega.{arith}
@@ -8,7 +8,7 @@ use borrow.Author.Tests.{lt-ltb, le-ltb, le-leb, lt-leb, leb-true, eq-eqb, ne-eq
 use lib.Dec.{leb}
 use lib.ListN.{length, getD, set, replicate}
 use Rattle.common.specs.Bytes.{wordAt}
-use Rattle.common.proofs.Cases.{on-less, on-test}
+use Rattle.common.proofs.Cases.{on-less}
 use Rattle.common.proofs.Same.{and-both}
 use Rattle.calls_run.specs.Format.{wordBytes, answerMost, output}
 use Rattle.calls_run.specs.Written.{Writes, Answers}

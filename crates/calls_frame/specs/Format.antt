@@ -9,7 +9,6 @@ use Rattle.calls_run.specs.Format.{wordBytes, wordsOf, answerMost, Output, outp
 use Rattle.calls_text.specs.Format.{bufferFill, callSize as otherSize, answerWithin as otherAnswer}
 use Rattle.frame.specs.declared.Reader.{Reader}
 use Rattle.frame_fields.specs.Fields.{Seen, fedSeenOf}
-use Rattle.frame_fields.specs.declared.AnswerFields.{AnswerFields}
 use Rattle.frame_fields.specs.declared.FedFields.{FedFields}
 use Rattle.frame_reply.specs.Reply.{Replied, replyOf}
 use Rattle.calls_frame.specs.declared.Lengths.{Lengths}

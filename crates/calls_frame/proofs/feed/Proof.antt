@@ -2,7 +2,6 @@
 use native.Mathlib.Omega.{arith}
 use mathlib.Core.Path.{_≡_}
 use Prim.Native.Nat.{_+_, _-_}
-use lib.ListN.{length-take}
 use Rattle.calls_frame.proofs.Taken.{taken-most}
 use borrow.Author.Needs.{needs}
 use Rattle.calls_frame.proofs.feed.Statement.{statement}

@@ -1,7 +1,7 @@
 -- `calls_frame::lend` meets its contract. Assumes nothing.
 use denote.Ref.{now}
 use Rattle.calls_frame.specs.declared.Lengths.{Lengths}
-use mathlib.Core.Path.{_≡_, sym, ap, _∙_}
+use mathlib.Core.Path.{sym, ap, _∙_}
 use lib.ListN.{length, take, length-take, length-replicate}
 use Rattle.calls_text.proofs.Calls.{take-replicate}
 use Prim.Native.Nat.{_≤_}

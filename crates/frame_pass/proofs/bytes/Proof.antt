@@ -1,14 +1,15 @@
--- `frame_reader::run` meets its contract. Assumes nothing.
+-- `frame_pass::bytes` meets its contract. Assumes nothing.
+use borrow.Author.Needs.{needs}
 use mathlib.Core.Path.{_≡_, refl, sym, ap, _∙_}
 use native.Mathlib.Omega.{arith}
 use Prim.Native.Nat.{_≤_, _-_}
 use borrow.Author.Tests.{not-false}
 use lib.ListN.{length, drop}
-use borrow.Author.Needs.{needs}
 use Rattle.frame.specs.Feeding.{feedOf, later}
-use Rattle.frame_reader.proofs.Loop.{length-stored, ran-on}
-use Rattle.frame_reader.proofs.run.Statement.{statement}
-use Rattle.frame_reader.proofs.run.Tie as tie
+use Rattle.frame_pass.proofs.Onward.{length-stored, goes-by}
+use Rattle.frame_step.proofs.Goes.{answers-nothing}
+use Rattle.frame_pass.proofs.bytes.Statement.{statement}
+use Rattle.frame_pass.proofs.bytes.Tie as tie
 
 abbrev Inv-loop : tie.InvT-loop
 Inv-loop piece from buffer₀ n₀ at₀ buffer n at =
@@ -35,8 +36,12 @@ returns c =
     let o = c .before .before .before .before .loop in
     record { onward = o .inv .0; inside = o .inv .1; same-size = o .inv .2; goes = o .inv .3 }
 
+keep-requires : tie.Need-keep-requires Inv-loop μ-loop
+keep-requires c κs = let e = c .before in sym (e .before .goes-on .ensures) ∙ not-false _ (e .if1 .left)
+
 within-requires : tie.Need-within-requires Inv-loop μ-loop
-within-requires c κs = let e = c .before in sym (e .before .goes-on .ensures) ∙ not-false _ (e .if1 .left)
+within-requires c κs =
+    let e = c .before .before .before .before in sym (e .before .goes-on .ensures) ∙ not-false _ (e .if1 .left)
 
 add-at : tie.Need-add-at Inv-loop μ-loop
 add-at c = omega arith
@@ -46,14 +51,14 @@ loop-less c = omega arith
 
 loop-again : tie.Need-loop-again Inv-loop μ-loop
 loop-again c =
-    let w = c .before .before in
-    let o = w .before .before .before .before .before .before .loop in
-    let k = w .within .ensures in (
-      omega arith,
-      omega arith,
-      ap length (k .buffer) ∙ length-stored _ _ _ ∙ o .inv .2,
-      ran-on _ _ (o .n) (o .buffer) (o .at) (o .inv .3) (omega arith) _ _ k,
-    )
+    let k = c .before .before .before in
+    let e = k .before .before in
+    let o = c .before .before .before .before .before .before .before .before .before in
+    let t = sym (e .before .goes-on .ensures) ∙ not-false _ (e .if1 .left) in
+    let step =
+    goes-by _ _ (o .loop .n) (o .loop .buffer) (o .loop .at) (o .loop .inv .3) (omega arith) _ _
+    (answers-nothing _ _ t) (c .within .ensures) (k .keep .ensures) in
+    (omega arith, omega arith, ap length (k .keep .ensures) ∙ length-stored _ _ _ ∙ o .loop .inv .2, step)
 
 same-length-2 : tie.Need-same-length-2 Inv-loop μ-loop
 same-length-2 c = c .before .loop .inv .2
@@ -63,8 +68,8 @@ returns-2 c =
     let o = c .before .loop in
     record { onward = o .inv .0; inside = o .inv .1; same-size = o .inv .2; goes = o .inv .3 }
 
-pub run-spec : {M : Type 1} → statement M
-run-spec =
+pub bytes-spec : {M : Type 1} → statement M
+bytes-spec =
     tie.close
     (tie.spec
     Inv-loop
@@ -74,6 +79,7 @@ run-spec =
     goes-on-requires
     same-length
     returns
+    keep-requires
     within-requires
     add-at
     loop-less
