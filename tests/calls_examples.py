@@ -3,7 +3,8 @@
 
     python3 tests/calls_examples.py [PROGRAM]        target/bin/calls_main unless given
 
-Each block marked `calls` is one run. A line is a call and, after `<`, what the program writes for it, both in hex.
+Each block marked `calls` is one run. A line is a call and, after `<`, what the program writes for it, both in hex; one
+that begins with blanks goes on with the line above, and `ee*26` is 26 times the byte ee.
 """
 
 import re
@@ -15,10 +16,15 @@ ROOT = Path(__file__).resolve().parent.parent
 DOCUMENT = ROOT / "docs" / "CALLS.md"
 
 
+def raw(text):
+    """The bytes of hex digits."""
+    return bytes.fromhex(re.sub(r"(\w\w)\*(\d+)", lambda run: run[1] * int(run[2]), text))
+
+
 def runs():
     """The calls of each block with their answers."""
     for block in re.findall(r"^```calls\n(.*?)^```$", DOCUMENT.read_text(), re.DOTALL | re.MULTILINE):
-        yield [[bytes.fromhex(part) for part in line.split("<")] for line in block.splitlines()]
+        yield [[raw(part) for part in line.split("<")] for line in re.sub(r"\n +", " ", block).splitlines()]
 
 
 def main():

@@ -3,7 +3,8 @@
 
 calls_main reads calls that need no session and writes what each answers; the
 format is that of docs/CALLS.md. Kind 1 compares two images; the calls of the
-text packets, kinds 6 and 7, are made by tests/text_vectors.py.
+text packets, kinds 6 and 7, are made by tests/text_vectors.py, those of frames,
+kinds 8 and 9, by tests/frame_calls.py.
 
     python3 tests/calls_vectors.py           write crates/calls_main/stdin, stdout
     python3 tests/calls_vectors.py --check   compare with them, write nothing
@@ -18,6 +19,7 @@ import re
 import sys
 from pathlib import Path
 
+import frame_calls
 import stored
 import text_vectors
 
@@ -197,13 +199,13 @@ def make_files():
     """The two files, by path, and what they are."""
     cases = [*directed(), *scattered()]
     answers = [comparison(*case) for case in cases]
-    texts = list(text_vectors.cases())
+    others = [*text_vectors.cases(), *frame_calls.cases()]
     cut = call(image(8), image(8), 2)[:-1]
     files = {
-        FOLDER / "stdin": b"".join([*(call(*case) for case in cases), *(made for made, _ in texts), cut]),
-        FOLDER / "stdout": b"".join([*(answer(*one) for one in answers), *(given for _, given in texts)]),
+        FOLDER / "stdin": b"".join([*(call(*case) for case in cases), *(made for made, _ in others), cut]),
+        FOLDER / "stdout": b"".join([*(answer(*one) for one in answers), *(given for _, given in others)]),
     }
-    numbers = [number for number, _, _ in answers] + [given[0] for _, given in texts]
+    numbers = [number for number, _, _ in answers] + [given[0] for _, given in others]
     counts = ", ".join(f"{numbers.count(number)} number {number}" for number in sorted(set(numbers)))
     return files, f"{len(numbers)} calls and a cut one: {counts}"
 

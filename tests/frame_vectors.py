@@ -1,11 +1,11 @@
 #!/usr/bin/env python3
 """Make the stored lines for readers of packets, with the answers to them.
 
-    python3 tests/frame_vectors.py           write the files
-    python3 tests/frame_vectors.py --check   compare with them, write nothing
+    python3 tests/frame_vectors.py           write the file
+    python3 tests/frame_vectors.py --check   compare with it, write nothing
 
-The files are tests/frame_vectors.txt, and the input and expected output of the
-program frame_main (crates/frame_main/stdin, stdout): all lines as one.
+The file is tests/frame_vectors.txt. tests/frame_calls.py makes calls for the
+program calls_main of the same cases.
 
 Written from documents 02 (request Nine) and 002 and not from the crates: a
 packet is taken apart by counting its stuffed bytes, not bit by bit. A line of
@@ -185,27 +185,10 @@ def lines():
     return "\n".join(out) + "\n"
 
 
-def written(answer):
-    """An answer as frame_main writes it (docs/CALLS.md)."""
-    _, kind, *values = answer.split(":")
-    if kind == "header":
-        return b"\x02"
-    if kind == "body":
-        return bytes([3, *map(int, values)])
-    number, length, body = values
-    return b"\x01" + int(number).to_bytes(4, "big") + int(length).to_bytes(2, "big") + bytes.fromhex(body)
-
-
 def make():
     text = lines()
-    line = b"".join(case for _, case in cases())
-    found = answers(line)
-    program = ROOT / "crates" / "frame_main"
-    return {
-        ROOT / "tests" / "frame_vectors.txt": text.encode(),
-        program / "stdin": line,
-        program / "stdout": b"".join(map(written, found)),
-    }, f"{text.count(chr(10))} lines, and one of {len(line)} bytes with {len(found)} answers"
+    return {ROOT / "tests" / "frame_vectors.txt": text.encode()}, f"{text.count(chr(10))} lines"
 
 
-sys.exit(stored.run(make))
+if __name__ == "__main__":
+    sys.exit(stored.run(make))

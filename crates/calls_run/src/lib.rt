@@ -64,7 +64,7 @@ pub fn put(out: &mut [u8], at: usize, v: u32)
 }
 
 // Stores the first n numbers of a list.
-fn put_all(out: &mut [u8], at: usize, list: &[u32], n: usize)
+pub fn put_all(out: &mut [u8], at: usize, list: &[u32], n: usize)
     requires { ⌜ (at + wordBytes * n ≤ length (now out)) × (n ≤ length (now list)) ⌝ }
     ensures { λ _. ⌜ now (out .exit) ≡ sets (now (out .entry)) at (wordsOf (take n (now (list .entry)))) ⌝ }
 {

@@ -4,11 +4,10 @@ use frame::Fed;
 use frame::Reader;
 use frame::Transition;
 ghost use mathlib.Core.Path.{_≡_};
-ghost use Prim.Native.Nat.{_≤_};
-ghost use lib.ListN.{length};
+ghost use Rattle.common.specs.Numbers.{accepted, wrongFrame};
 ghost use Rattle.frame.specs.Packet.{isRequest};
-ghost use Rattle.frame.specs.Feeding.{isAnswer, stored, call, callOf, sizeOf, bodyOf};
-ghost use Rattle.frame_reader.specs.Runs.{Runs};
+ghost use Rattle.frame.specs.Feeding.{isAnswer, stored, fed, call, callOf, sizeOf, bodyOf};
+ghost use Rattle.frame.specs.declared.Answer.the-variants.{Nothing};
 
 // Whether there is an answer.
 fn is_answer(a: Answer) -> bool
@@ -39,30 +38,28 @@ fn store(buffer: &mut [u8], r: Reader, t: Transition)
     buffer[at] = t.byte;
 }
 
-// A reader, and how many bytes of a piece it has taken.
-struct Progress {
-    reader: Reader,
-    at: usize,
+// What a call says that is refused.
+fn refused(r: Reader) -> Fed
+    ensures { λ f. ⌜ f ≡ fed wrongFrame 0 Nothing r ⌝ }
+{
+    Fed {
+        number: common::WRONG_FRAME,
+        taken: 0,
+        answer: Answer::Nothing,
+        reader: r,
+    }
 }
 
-// Takes the bytes of a piece, from one on, after which a part goes on. All of this could be left to `transition`; most
-// bytes are such, and this takes them faster.
-fn run(r: Reader, piece: &[u8], from: usize, buffer: &mut [u8]) -> Progress
-    requires { ⌜ from ≤ length (now piece) ⌝ }
-    ensures { λ p. ⌜ Runs r from p (now (piece .entry)) (now (buffer .entry)) (now (buffer .exit)) ⌝ }
+// What a call says that took so many bytes.
+fn fed(taken: usize, a: Answer, r: Reader) -> Fed
+    ensures { λ f. ⌜ f ≡ fed accepted taken a r ⌝ }
 {
-    let mut n = r;
-    let mut at = from;
-    while at < piece.len() {
-        let c = piece[at];
-        if !frame_step::goes_on(n, c) {
-            return Progress { reader: n, at };
-        }
-        let next = frame_step::within(n, c, buffer);
-        n = next;
-        at += 1;
+    Fed {
+        number: common::ACCEPTED,
+        taken,
+        answer: a,
+        reader: r,
     }
-    Progress { reader: n, at }
 }
 
 // Feeds a piece of the line to a reader, up to the first answer.
@@ -70,40 +67,28 @@ pub fn feed(r: Reader, piece: &[u8], buffer: &mut [u8]) -> Fed
     ensures { λ f. ⌜ call f (now (buffer .exit)) ≡ callOf r (now (piece .entry)) (now (buffer .entry)) ⌝ }
 {
     if buffer.len() < frame::BUFFER_LEAST {
-        return Fed {
-            number: common::WRONG_FRAME,
-            taken: 0,
-            answer: Answer::Nothing,
-            reader: r,
-        };
+        return refused(r);
     }
-    let first = run(r, piece, 0, buffer);
-    let mut reader = first.reader;
-    let mut at = first.at;
+    let mut reader = r;
+    let mut at: usize = 0;
     while at < piece.len() {
-        let t = frame_step::transition(reader, piece[at]);
-        store(buffer, reader, t);
+        let p = frame_pass::pass(reader, piece, at, buffer);
+        let s = p.reader;
+        let i = p.at;
+        if i == piece.len() {
+            return fed(i, Answer::Nothing, s);
+        }
+        let t = frame_step::transition(s, piece[i]);
+        store(buffer, s, t);
         let a = t.answer;
         let next = t.reader;
         if is_answer(a) {
-            return Fed {
-                number: common::ACCEPTED,
-                taken: at + 1,
-                answer: a,
-                reader: next,
-            };
+            return fed(i + 1, a, next);
         }
-        let p = run(next, piece, at + 1, buffer);
-        let r = p.reader;
-        reader = r;
-        at = p.at;
+        reader = next;
+        at = i + 1;
     }
-    Fed {
-        number: common::ACCEPTED,
-        taken: at,
-        answer: Answer::Nothing,
-        reader,
-    }
+    fed(at, Answer::Nothing, reader)
 }
 
 // The length of the body that an answer lends back.

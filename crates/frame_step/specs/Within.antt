@@ -1,24 +1,27 @@
--- A byte of stuffed data after which its part goes on.
+-- A byte of stuffed data after which its part goes on, and the last byte of a good header.
 use Prim.Native.Nat.{ℕ}
-use mathlib.Core.Path.{_≡_}
-use mathlib.Core.Bool.{Bool, _&&_, _||_}
-use mathlib.Core.List.{List}
-use lib.Dec.{eqb, leb}
-use Rattle.frame.specs.Reader.{inHeader, inBody, transitionOf}
-use Rattle.frame.specs.Feeding.{stored}
+use mathlib.Core.Bool.{Bool, not, _&&_, _||_}
+use lib.Dec.{eqb, leb, ltb}
+use Rattle.frame.specs.Stuffing.{completed}
+use Rattle.frame.specs.Reader.{inHeader, inBody, shifted, added, isGood}
 use Rattle.frame.specs.declared.Reader.{Reader}
-use Rattle.frame.specs.declared.Answer.the-variants.{Nothing}
 
 -- stuffed data is due
 abbrev pub inPart : Reader → Bool
 inPart r = eqb (r .phase) inHeader || eqb (r .phase) inBody
 
--- its high bit is set, the last byte of the part is not due, and stuffed data is
-unfoldable pub goesOn : Reader → ℕ → Bool
-goesOn r c = leb 128 c && (leb (r .count) (r .size) && inPart r)
+-- the next stuffed byte completes the last byte of its part
+unfoldable pub lastDue : Reader → Bool
+lastDue r = ltb 2 (r .scale) && ltb (r .size) (r .count)
 
--- n is the reader after it, where nothing is answered
-pub record Continues (r : Reader) (c : ℕ) (n : Reader) (before after : List ℕ) : Type 0 where
-  pub reader : n ≡ transitionOf r c .reader
-  pub silent : transitionOf r c .answer ≡ Nothing
-  pub buffer : after ≡ stored r (transitionOf r c) before
+-- its high bit is set, it is not that byte, and stuffed data is due
+unfoldable pub goesOn : Reader → ℕ → Bool
+goesOn r c = leb 128 c && (not (lastDue r) && inPart r)
+
+-- the reader with the byte that a stuffed byte completes
+abbrev pub completing : Reader → ℕ → Reader
+completing r c = added (shifted r c) (completed (r .scale) (r .held) c)
+
+-- its high bit is set, and it is that byte of a header that is good
+unfoldable pub endsHeader : Reader → ℕ → Bool
+endsHeader r c = leb 128 c && (lastDue r && (eqb (r .phase) inHeader && isGood (completing r c)))

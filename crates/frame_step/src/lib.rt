@@ -10,7 +10,8 @@ ghost use Rattle.frame.specs.Stuffing.{scaleAfter, completed};
 ghost use Rattle.frame.specs.Reader.{shifted, sumAfter, added, counted, badAnswer, isGood, ended};
 ghost use Rattle.frame.specs.Reader.{phaseAfterHeader, opened, afterPart, partAnswer, silent, answering};
 ghost use Rattle.frame.specs.Reader.{byteComplete, dataOf, endOf, transitionOf};
-ghost use Rattle.frame_step.specs.Within.{inPart, goesOn, Continues};
+ghost use Rattle.frame.specs.Feeding.{stored};
+ghost use Rattle.frame_step.specs.Within.{inPart, lastDue, goesOn, completing, endsHeader};
 
 // Where a header's length and checksum, and the last byte, stand in the last eight bytes.
 const LENGTH: u64 = 0x100000000;
@@ -84,6 +85,13 @@ fn add(r: Reader, b: u8) -> Reader
         phase: r.phase,
         held: r.held,
     }
+}
+
+// A reader with the byte that a stuffed byte completes.
+fn completing(r: Reader, c: u8) -> Reader
+    ensures { λ n. ⌜ n ≡ completing r c ⌝ }
+{
+    add(shift(r, c), completed(r, c))
 }
 
 // A reader whose part goes on.
@@ -306,6 +314,16 @@ pub fn transition(r: Reader, c: u8) -> Transition
     silent(r)
 }
 
+// Whether the next stuffed byte completes the last byte of its part.
+fn last_due(r: Reader) -> bool
+    ensures { λ b. ⌜ b ≡ lastDue r ⌝ }
+{
+    if r.scale <= 2 {
+        return false;
+    }
+    (r.size as u32) < r.count
+}
+
 // Whether a byte is stuffed data after which its part goes on.
 pub fn goes_on(r: Reader, c: u8) -> bool
     ensures { λ b. ⌜ b ≡ goesOn r c ⌝ }
@@ -313,10 +331,21 @@ pub fn goes_on(r: Reader, c: u8) -> bool
     if c < 128 {
         return false;
     }
-    if (r.size as u32) < r.count {
+    if last_due(r) {
         return false;
     }
     in_part(r)
+}
+
+// The reader that `transition` gives for such a byte: most bytes are such, and nothing is answered.
+pub fn within(r: Reader, c: u8) -> Reader
+    requires { ⌜ goesOn r c ≡ true ⌝ }
+    ensures { λ n. ⌜ n ≡ transitionOf r c .reader ⌝ }
+{
+    if r.scale <= 2 {
+        return shift(r, c);
+    }
+    advance(completing(r, c))
 }
 
 // Stores a byte of a body, where the buffer has the place: a reader of any content may name another.
@@ -330,19 +359,40 @@ fn put(buffer: &mut [u8], count: u32, b: u8)
     buffer[at] = b;
 }
 
-// The same as `transition` for such a byte: most bytes are, and nothing is answered.
-pub fn within(r: Reader, c: u8, buffer: &mut [u8]) -> Reader
+// Stores what `transition` does for such a byte.
+pub fn keep(r: Reader, c: u8, buffer: &mut [u8])
     requires { ⌜ goesOn r c ≡ true ⌝ }
-    ensures { λ n. ⌜ Continues r c n (now (buffer .entry)) (now (buffer .exit)) ⌝ }
+    ensures { λ _. ⌜ now (buffer .exit) ≡ stored r (transitionOf r c) (now (buffer .entry)) ⌝ }
 {
     if r.scale <= 2 {
-        return shift(r, c);
+        return;
     }
-    let b = completed(r, c);
-    let n = advance(add(shift(r, c), b));
     if r.phase != frame::IN_BODY {
-        return n;
+        return;
     }
-    put(buffer, r.count, b);
-    n
+    put(buffer, r.count, completed(r, c));
+}
+
+// Whether a byte is the last of a good header.
+pub fn ends_header(r: Reader, c: u8) -> bool
+    ensures { λ b. ⌜ b ≡ endsHeader r c ⌝ }
+{
+    if c < 128 {
+        return false;
+    }
+    if !last_due(r) {
+        return false;
+    }
+    if r.phase != frame::IN_HEADER {
+        return false;
+    }
+    is_good(completing(r, c))
+}
+
+// The reader that `transition` gives for such a byte; nothing is stored or answered.
+pub fn after_header(r: Reader, c: u8) -> Reader
+    requires { ⌜ endsHeader r c ≡ true ⌝ }
+    ensures { λ n. ⌜ n ≡ transitionOf r c .reader ⌝ }
+{
+    open(completing(r, c))
 }

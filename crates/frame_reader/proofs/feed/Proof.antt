@@ -1,34 +1,58 @@
 -- `frame_reader::feed` meets its contract. Assumes nothing.
-use mathlib.Core.Path.{_≡_, refl, sym, ap, _∙_}
+use denote.Ref.{now}
+use mathlib.Core.Path.{sym, ap, _∙_}
 use native.Mathlib.Omega.{arith}
-use Prim.Native.Nat.{_≤_, _-_}
-use lib.ListN.{length, drop}
+use Prim.Native.Nat.{_-_}
+use lib.ListN.{length}
+use Rattle.frame.specs.Feeding.{call}
+use Rattle.frame.specs.declared.Fed.{Fed}
+use Rattle.frame_pass.specs.Runs.{Runs}
+use Rattle.frame_pass.proofs.Onward.{length-stored, fed-on, stays, then}
+use Rattle.frame_reader.proofs.Loop.{too-short, fed-by, fed-all, fed-answer, later-zero}
 use borrow.Author.Needs.{needs}
-use Rattle.frame.specs.Packet.{bufferLeast}
-use Rattle.frame.specs.Feeding.{feedOf, later}
-use Rattle.frame_reader.proofs.Loop.{length-stored, too-short, fed-by, fed-all, fed-answer, fed-on, later-zero}
 use Rattle.frame_reader.proofs.feed.Statement.{statement}
 use Rattle.frame_reader.proofs.feed.Tie as tie
 
 abbrev Inv-loop : tie.InvT-loop
 Inv-loop piece buffer₀ reader₀ at₀ buffer reader at =
-    (at ≤ length piece) × (length buffer ≡ length buffer₀)
-    × (later at₀ (feedOf reader₀ buffer₀ (drop at₀ piece)) ≡ later at (feedOf reader buffer (drop at piece)))
+    Runs reader₀ 0 (record { reader = reader; at = at }) piece buffer₀ buffer
 
 abbrev μ-loop : tie.MeasureT-loop
 μ-loop piece buffer₀ reader₀ at₀ buffer reader at = length piece - at
 
-returns : tie.Need-returns Inv-loop μ-loop
-returns c = too-short _ _ _ (c .if1 .taken)
+refused-requires : tie.Need-refused-requires Inv-loop μ-loop
+refused-requires c κs = search needs
 
-run-requires : tie.Need-run-requires Inv-loop μ-loop
-run-requires c κs = search needs
+returns : tie.Need-returns Inv-loop μ-loop
+returns c =
+    let s = c .before .before .before .before in
+    let buffer = now (s .args .buffer) in
+    ap (λ (f : Fed). call f buffer) (c .refused .ensures) ∙ too-short _ _ _ (c .before .if1 .taken)
 
 loop-holds : tie.Need-loop-holds Inv-loop μ-loop
-loop-holds c = (c .before .before .before .run .ensures .inside, refl, refl)
+loop-holds c = stays _ _ _ _ (omega arith)
+
+pass-requires : tie.Need-pass-requires Inv-loop μ-loop
+pass-requires c κs = c .before .before .loop .inv .inside
+
+fed-requires : tie.Need-fed-requires Inv-loop μ-loop
+fed-requires c κs = search needs
+
+same-length : tie.Need-same-length Inv-loop μ-loop
+same-length c =
+    let p = c .before .before .before .before .before in
+    p .pass .ensures .same-size ∙ p .before .before .before .loop .inv .same-size
+
+returns-2 : tie.Need-returns-2 Inv-loop μ-loop
+returns-2 c =
+    let p = c .before .before .before .before .before in
+    let o = c .before .before .before .before .before .before .before .before in
+    let known = later-zero _ ∙ o .loop .inv .goes ∙ p .pass .ensures .goes in
+    ap (λ (f : Fed). call f (p .pass .last .1 .1 .1 .0)) (c .fed .ensures)
+    ∙ fed-by _ _ _ _ (o .before .if1 .left) (fed-all _ _ _ _ _ known (omega (arith, c .before .if2 .taken)))
 
 shared-slice-read-transition : tie.Need-shared-slice-read-transition Inv-loop μ-loop
-shared-slice-read-transition c = omega arith
+shared-slice-read-transition c = omega (arith, c .before .before .before .before .before .pass .ensures .inside)
 
 transition-requires : tie.Need-transition-requires Inv-loop μ-loop
 transition-requires c κs = search needs
@@ -39,79 +63,77 @@ store-requires c κs = search needs
 is-answer-requires : tie.Need-is-answer-requires Inv-loop μ-loop
 is-answer-requires c κs = search needs
 
-add-t25 : tie.Need-add-t25 Inv-loop μ-loop
-add-t25 c =
+add-fed : tie.Need-add-fed Inv-loop μ-loop
+add-fed c =
     let byte = c .before .before .before .before .before .before .before .before in
-    let test = byte .before .loop-test in
-    let known = byte .shared-slice-known2 in omega arith
+    let s = byte .before .before .before .before .before .before .before .before .before .before .before .before in
+    let inside = shared-slice-read-transition byte in omega arith
 
-same-length : tie.Need-same-length Inv-loop μ-loop
-same-length c =
-    let l = c .before .before .before .before .before in
-    let o = l .before .before .before .before .before in
-    let first = o .before .before .before .before in
-    ap length (l .store .ensures) ∙ length-stored _ _ _ ∙ o .loop .inv .1 ∙ first .run .ensures .same-size
-
-returns-2 : tie.Need-returns-2 Inv-loop μ-loop
-returns-2 c =
-    let a = c .before in
-    let l = a .before .before .before .before in
-    let t = l .before .before in
-    let o = t .before .before .before in
-    let first = o .before .before .before .before in
-    fed-by _ _ _ _ (first .before .before .if1 .left)
-    (later-zero _
-    ∙ first .run .ensures .goes
-    ∙ fed-answer _ _ (o .loop .reader) (o .loop .buffer) (o .loop .at) (o .loop .inv .2) (omega arith)
-    (t .transition .result)
-    (t .transition .ensures) (l .store .last .0) (l .store .ensures) (sym (a .is-answer .ensures) ∙ c .if2 .taken))
-
-add-run : tie.Need-add-run Inv-loop μ-loop
-add-run c =
-    let byte = c .before .before .before .before .before .before .before .before in
-    let test = byte .before .loop-test in
-    let known = byte .shared-slice-known2 in omega arith
-
-run-requires-2 : tie.Need-run-requires-2 Inv-loop μ-loop
-run-requires-2 c κs = omega arith
-
-loop-less : tie.Need-loop-less Inv-loop μ-loop
-loop-less c =
-    let p = c .before .before .before in
-    let onward = p .run2 .ensures .onward in
-    let inside = p .run2 .ensures .inside in
-    let o = p .before .before .before .before .before .before .before .before .before .before .before in
-    let test = o .loop-test in omega arith
-
-loop-again : tie.Need-loop-again Inv-loop μ-loop
-loop-again c =
-    let p = c .before .before .before in
-    let a = p .before .before .before in
-    let l = a .before .before .before .before in
-    let t = l .before .before in
-    let o = t .before .before .before in (
-      p .run2 .ensures .inside,
-      p .run2 .ensures .same-size ∙ ap length (l .store .ensures) ∙ length-stored _ _ _ ∙ o .loop .inv .1,
-      fed-on _ _ (o .loop .reader) (o .loop .buffer) (o .loop .at) (o .loop .inv .2) (omega arith)
-          (t .transition .result)
-          (t .transition .ensures) (l .store .last .0) (l .store .ensures)
-          (sym (a .is-answer .ensures) ∙ p .before .before .if2 .left)
-          ∙ p .run2 .ensures .goes,
-    )
+fed-requires-2 : tie.Need-fed-requires-2 Inv-loop μ-loop
+fed-requires-2 c κs = search needs
 
 same-length-2 : tie.Need-same-length-2 Inv-loop μ-loop
 same-length-2 c =
-    let o = c .before in
-    let first = o .before .before .before .before in o .loop .inv .1 ∙ first .run .ensures .same-size
+    let l = c .before .before .before .before .before .before in
+    let p = l .before .before .before .before .before .before .before .before in
+    let g = then (p .before .before .before .loop .inv) (p .pass .ensures) in
+    ap length (l .store .ensures) ∙ length-stored _ _ _ ∙ g .same-size
 
 returns-3 : tie.Need-returns-3 Inv-loop μ-loop
 returns-3 c =
-    let o = c .before in
-    let first = o .before .before .before .before in
-    fed-by _ _ _ _ (first .before .before .if1 .left)
-    (later-zero _
-    ∙ first .run .ensures .goes
-    ∙ fed-all _ _ (o .loop .reader) (o .loop .buffer) (o .loop .at) (o .loop .inv .2) (omega arith))
+    let a = c .before .before in
+    let l = a .before .before .before .before in
+    let t = l .before .before in
+    let p = t .before .before .before .before .before .before in
+    let o = p .before .before .before in
+    let g = then (o .loop .inv) (p .pass .ensures) in
+    let kept = l .store .last .0 in
+    ap (λ (f : Fed). call f kept) (c .fed2 .ensures)
+    ∙ fed-by _ _ _ _ (o .before .if1 .left)
+    (fed-answer _ _ _ _ _ (later-zero _ ∙ g .goes) (shared-slice-read-transition (t .before)) (t .transition .result)
+    (t .transition .ensures) kept (l .store .ensures) (sym (a .is-answer .ensures) ∙ c .before .if3 .taken))
+
+add-at : tie.Need-add-at Inv-loop μ-loop
+add-at c =
+    let byte = c .before .before .before .before .before .before .before .before in
+    let s = byte .before .before .before .before .before .before .before .before .before .before .before .before in
+    let inside = shared-slice-read-transition byte in omega arith
+
+loop-less : tie.Need-loop-less Inv-loop μ-loop
+loop-less c =
+    let byte = c .before .before .before .before .before .before .before .before in
+    let onward = byte .before .before .before .before .before .pass .ensures .onward in
+    let inside = shared-slice-read-transition byte in omega arith
+
+loop-again : tie.Need-loop-again Inv-loop μ-loop
+loop-again c =
+    let a = c .before in
+    let l = a .before .before .before .before in
+    let t = l .before .before in
+    let p = t .before .before .before .before .before .before in
+    let o = p .before .before .before in
+    let inside = shared-slice-read-transition (t .before) in
+    let g = then (o .loop .inv) (p .pass .ensures) in
+    record {
+      onward = omega arith;
+      inside = omega (arith, inside);
+      same-size = ap length (l .store .ensures) ∙ length-stored _ _ _ ∙ g .same-size;
+      goes =
+          fed-on _ _ _ _ _ (g .goes) inside (t .transition .result) (t .transition .ensures) (l .store .last .0)
+          (l .store .ensures) (sym (a .is-answer .ensures) ∙ c .if3 .left);
+    }
+
+fed-requires-3 : tie.Need-fed-requires-3 Inv-loop μ-loop
+fed-requires-3 c κs = search needs
+
+same-length-3 : tie.Need-same-length-3 Inv-loop μ-loop
+same-length-3 c = c .before .before .loop .inv .same-size
+
+returns-4 : tie.Need-returns-4 Inv-loop μ-loop
+returns-4 c =
+    let o = c .before .before in
+    ap (λ (f : Fed). call f (o .loop .buffer)) (c .fed3 .ensures)
+    ∙ fed-by _ _ _ _ (o .before .if1 .left) (fed-all _ _ _ _ _ (later-zero _ ∙ o .loop .inv .goes) (omega arith))
 
 pub feed-spec : {M : Type 1} → statement M
 feed-spec =
@@ -119,19 +141,24 @@ feed-spec =
     (tie.spec
     Inv-loop
     μ-loop
+    refused-requires
     returns
-    run-requires
     loop-holds
+    pass-requires
+    fed-requires
+    same-length
+    returns-2
     shared-slice-read-transition
     transition-requires
     store-requires
     is-answer-requires
-    add-t25
-    same-length
-    returns-2
-    add-run
-    run-requires-2
+    add-fed
+    fed-requires-2
+    same-length-2
+    returns-3
+    add-at
     loop-less
     loop-again
-    same-length-2
-    returns-3)
+    fed-requires-3
+    same-length-3
+    returns-4)
