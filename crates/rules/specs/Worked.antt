@@ -2,7 +2,7 @@
 -- proves it.
 use mathlib.Core.List.{List, [], _∷_, _++_}
 use Prim.Native.Nat.{ℕ, _*_}
-use lib.ListN.{take, drop, replicate}
+use lib.ListN.{length, take, drop, replicate}
 use Rattle.common.specs.Bytes.{highFirst}
 use Rattle.common.specs.Tab.{tab}
 use Rattle.memory.specs.Head.{house}
@@ -66,9 +66,9 @@ restarts = step (λ regs. restartStep regs (replicate 10 0))
 abbrev pub texts : String → Call
 texts s = step (λ regs. textStep regs (codes s) (replicate textMost 0))
 
--- number 0, the text, zeros up to 34 bytes, no error, and how many bytes it has
-abbrev pub told : String → ℕ → List ℕ
-told s n = 0 ∷ (padded textMost (codes s) ++ (0 ∷ n ∷ []))
+-- number 0, the text, zeros up to 34 bytes, whether ERRFLG is -1, and how many bytes the text has
+abbrev pub told : ℕ → String → List ℕ
+told error s = 0 ∷ (padded textMost (codes s) ++ (error ∷ length (codes s) ∷ []))
 
 -- number 0 and a reply of ten bytes
 abbrev pub reply : ℕ → List ℕ
@@ -146,7 +146,15 @@ workedRows =
     row (ask 0x06_00000005_0000000000 ∷ ask 0x02_00000000_01_00000000 ∷ [])
     (reply 0x07_3830303031303030_00 ∷ reply 0x01_6e6f7473746f70_0000 ∷ []) ∷
     -- 02, Three: a word, and a word written across the trap of case 4
-    row (texts "0x0 i 0x1004 0x0" ∷ []) (told "0x0 i 0x0 0x7060504" 19 ∷ []) ∷
+    row (texts "0x0 i 0x1004 0x0" ∷ []) (told 0 "0x0 i 0x0 0x7060504" ∷ []) ∷
     row (planting ++ (texts "0x0 D 0x1008 0xccbbaa99" ∷ look 8 4 ∷ texts "0x0 d 0x1008 0x0" ∷ []))
-    (plantingShows ++ (told "0x0 D 0x0 0xb0a0908" 19 ∷ (0x02 ∷ 0x90 ∷ 0xbb ∷ 0xcc ∷ []) ∷
-    told "0x0 d 0x0 0xccbbaa99" 20 ∷ [])) ∷ []
+    (plantingShows ++ (told 0 "0x0 D 0x0 0xb0a0908" ∷ (0x02 ∷ 0x90 ∷ 0xbb ∷ 0xcc ∷ []) ∷
+    told 0 "0x0 d 0x0 0xccbbaa99" ∷ [])) ∷
+    -- the errors, each before those that would come after it: letter, PID; alignment, window; number, current, Stopped
+    row
+    (texts "0x5 c 0x1 0x0" ∷ texts "0x5 i 0x1 0x0" ∷ texts "0x0 i 0x1 0x0" ∷ texts "0x0 D 0x1040 0x0" ∷
+    texts "0x0 r 0x22 0x0" ∷ texts "0x0 R 0x0 0x0" ∷ texts "0x0 r 0x21 0x0" ∷ ask 0x06_00000005_0000000000 ∷
+    texts "0x0 R 0x21 0x0" ∷ [])
+    (told 1 "0x5 c 0xffffffff 0x16" ∷ told 1 "0x5 i 0xffffffff 0x3" ∷ told 1 "0x0 i 0xffffffff 0x16" ∷
+    told 1 "0x0 D 0xffffffff 0xe" ∷ told 1 "0x0 r 0xffffffff 0x16" ∷ told 1 "0x0 R 0xffffffff 0x16" ∷
+    told 1 "0x0 r 0xffffffff 0x3" ∷ reply 0x07_3830303031303030_00 ∷ told 1 "0x0 R 0xffffffff 0x10" ∷ []) ∷ []
