@@ -150,7 +150,12 @@ pub steps-few : (w : World) (kind : StepKind) (body : List ℕ) (r : Stepped) (w
     → Steps (stepOn w kind body) r words mem regs before after → r .filled ≤ stepMost
 unfolding stepOn
 steps-few w kind body r words mem regs before after s =
-    omega (arith, s .writes .filled, shown-most (w .target) (w .mem) (encoded kind body (w .regs)) (few-encoded kind body (w .regs)))
+    omega (
+      arith,
+      s .writes .filled,
+      shown-most (w .target) (w .mem) (encoded kind body (w .regs))
+          (few-encoded kind body (w .regs)),
+    )
 
 module _ (o : Outcome) (number : ℕ) (answer : Answer) (r : Stepped) (words mem regs before after : List ℕ) where
   pub steps-shown : (t : StoredTarget) (reply : List ℕ)

@@ -31,7 +31,8 @@ use Rattle.text_packet_read.specs.declared.Reading.the-variants.{Accepted}
 use Rattle.rules.proofs.Texts.{TextCase, refusing, word-read, word-written, register-read, register-written}
 
 -- a step that is refused by its number leaves the book
-unfed : (head : Head) (s : Setup) (b : Book) (e : Step) (n : ℕ) (reply : List ℕ) → eqb n 0 ≡ false → fed head s b e n Nothing reply ≡ b
+unfed : (head : Head) (s : Setup) (b : Book) (e : Step) (n : ℕ) (reply : List ℕ) → eqb n 0 ≡ false
+    → fed head s b e n Nothing reply ≡ b
 unfolding fed isAccepted
 unfed head s b (request r bytes buffer) n reply h = rw h
 unfed head s b (trapEvent r pid block) n reply h = rw h

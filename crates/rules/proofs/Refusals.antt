@@ -111,7 +111,8 @@ refusals head t mem (stateEvent regs pid value) =
 refusals head t mem (restartStep regs reply) =
     by-number Reply (λ o p. p .number) (restart-checked head (world t mem regs) reply)
 refusals head t mem (textStep regs bytes reply) =
-    by-checks (TextOutcome head (world t mem regs) bytes reply) (λ o. not (eqb (o .number) 0 && isCompleted (o .answer)))
+    by-checks (TextOutcome head (world t mem regs) bytes reply) (λ o. not (eqb (o .number) 0 && isCompleted
+    (o .answer)))
     false (λ o p. text-number p) (λ o. left-text) (text-checked head (world t mem regs) bytes reply)
 
 -- ---- setup

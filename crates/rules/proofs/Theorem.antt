@@ -167,7 +167,8 @@ unfolding HoldsCount
 held-all [] s b y t mem a c = sym (c .held)
 held-all {head} (step e ∷ es) s b y t mem a c =
     let o = stepOf head t mem e in
-    held-all es s (fed head s b e (o .number) (o .answer) (o .reply)) (counted y e (o .number) (o .reply)) (o .after .target)
+    held-all es s (fed head s b e (o .number) (o .answer) (o .reply)) (counted y e (o .number) (o .reply))
+    (o .after .target)
     (o .after .mem) (record { good = good-kept t mem e (a .good); follows = after-step s b t mem a e })
     (counts-step t mem y (a .good) c e)
 held-all (change i byte ∷ es) s b y t mem a c =

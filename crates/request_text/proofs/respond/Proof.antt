@@ -110,7 +110,8 @@ unfolding responseBy stored
 returns-6 c words f =
     let e = c .before in
     let b = e .before .before in
-    rw (c .kept2 .ensures) (given-by _ _ _ (b .before .before .kind-of .ensures) Unlisted (e .enum-told5 .given .1) _ refl)
+    rw (c .kept2 .ensures) (given-by _ _ _ (b .before .before .kind-of .ensures) Unlisted
+    (e .enum-told5 .given .1) _ refl)
 
 pub respond-spec : {M : Type 1} → statement M
 respond-spec =

@@ -19,9 +19,9 @@ keeping-requires c κs = search needs
 returns : tie.Need-returns
 unfolding stored refused
 returns c = (
-      λ words f. rw (c .keeping .ensures) (text-short _ _ _ (c .before .if1 .taken)),
-      λ z. ap (λ (e : Effect). e .change) (c .keeping .ensures),
-    )
+  λ words f. rw (c .keeping .ensures) (text-short _ _ _ (c .before .if1 .taken)),
+  λ z. ap (λ (e : Effect). e .change) (c .keeping .ensures),
+)
 
 read-requires : tie.Need-read-requires
 read-requires c κs = search needs
@@ -69,7 +69,8 @@ returns-3 c =
     let x = w .before .before .before .before .before .before in
     let k = x .before .before .before in
     let r = k .before .before .before in (
-      λ words f. text-done _ _ _ (r .before .if1 .left) _ (r .read .ensures) _ words _ (k .before .asked .given .1) _ _ _ _ _
+      λ words f. text-done _ _ _ (r .before .if1 .left) _ (r .read .ensures) _ words _
+          (k .before .asked .given .1) _ _ _ _ _
           (x .respond .ensures words f) (w .reply-with .ensures .0) (w .reply-with .ensures .1),
       λ z. absurd (z (ap (λ (e : Effect). e .number) (w .reply-with .ensures .0))),
     )

@@ -47,7 +47,8 @@ returns-2 c words regs f =
     let e = c .before in
     let x = e .before .before in
     let b = x .before .before .before .before .before .before in
-    rw (c .kept2 .ensures) (word-outside _ _ _ (b .if1 .left) _ _ (f .sites) (f .plain) _ (x .fetch .ensures) (e .enum-told .given .1))
+    rw (c .kept2 .ensures) (word-outside _ _ _ (b .if1 .left) _ _ (f .sites) (f .plain) _ (x .fetch .ensures)
+    (e .enum-told .given .1))
 
 kept-requires-3 : tie.Need-kept-requires-3
 kept-requires-3 c κs = search needs
