@@ -92,8 +92,7 @@ Says startPart h s b e r o =
 -- "every trap's plain bytes go back": an accepted restart leaves plain memory
 Says restartPart h s b e r o = (regs buffer : List ℕ) → e ≡ restartStep regs buffer → o .number ≡ accepted
     → o .mem ≡ b .plain
--- 02, Three: "words answered by i, d, I, D are memory reads": a word that is answered is plain memory's as it stood before
--- the step
+-- 02, Three: a word that i, d, I or D answers is a memory read: plain memory's as it stood before the step
 Says textPart h s b e r o =
     (regs bytes buffer : List ℕ) (p : Packet) → e ≡ textStep regs bytes buffer → readOf bytes ≡ Accepted p
     → isWord (textKind (p .letter)) ≡ true → o .number ≡ accepted → isCompleted (o .answer) ≡ true

@@ -123,8 +123,8 @@ bufferOf (stateEvent regs pid value) = []
 bufferOf (restartStep regs reply) = reply
 bufferOf (textStep regs bytes reply) = reply
 
--- "A step is refused if its number is not 0 or a request got Rerr", or, 02, Three, if it is "answered with ERRFLG -1": a
--- request is accepted
+-- "A step is refused if its number is not 0 or a request got Rerr": a request is accepted. 02, Three: so is a text step
+-- that is "answered with ERRFLG -1"
 unfoldable pub isAccepted : ℕ → List ℕ → Bool
 isAccepted number reply = eqb number accepted && not (eqb (getD reply 0 0) 1)
 

@@ -6,7 +6,8 @@ use borrow.Author.Needs.{needs}
 use lib.ListN.{length}
 use Rattle.step.specs.declared.StepKind.the-variants.{Trap, Schedule, State}
 use Rattle.program_run.specs.Encoding.{bodyOf}
-use Rattle.program_run.proofs.Steps.{length-known, is-request, is-trap, is-schedule, is-state, is-restart, is-text}
+use Rattle.program_run.proofs.Steps.{length-known, is-request, is-trap, is-schedule, is-state, is-restart}
+use Rattle.program_run.proofs.Steps.{is-text}
 use Rattle.program_run.proofs.step.Statement.{statement}
 use Rattle.program_run.proofs.step.Tie as tie
 
