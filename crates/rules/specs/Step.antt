@@ -123,11 +123,11 @@ bufferOf (stateEvent regs pid value) = []
 bufferOf (restartStep regs reply) = reply
 bufferOf (textStep regs bytes reply) = reply
 
--- "A step is refused if its number is not 0 or a request got Rerr": a request is accepted. 02, Three: so is a text step
--- that is "answered with ERRFLG -1"
+-- "A step is refused if its number is not 0 or a request got Rerr": a request is accepted
 unfoldable pub isAccepted : ℕ → List ℕ → Bool
 isAccepted number reply = eqb number accepted && not (eqb (getD reply 0 0) 1)
 
+-- 02, Three: "A step answered with ERRFLG -1 is refused"
 unfoldable pub isRefused : Step → Outcome → Bool
 isRefused (request regs bytes reply) o = not (isAccepted (o .number) (o .reply))
 isRefused (trapEvent regs pid block) o = not (eqb (o .number) accepted)
