@@ -10,7 +10,8 @@
 //! - after a number other than 0, that nothing changed: no byte of the record, of memory, registers
 //!   or reply (a setup changes no buffer at all, and a refused one empties the record);
 //! - after Rerr, that memory, registers and all of the record but the condition in hand and the
-//!   places that no breakpoint holds are as before;
+//!   places that no breakpoint holds are as before; after a text step with ERRFLG -1, that all of the
+//!   record is, the condition in hand and every place too;
 //! - in a session, the claims of the book of demand 3, that the record has what the book has, and
 //!   that it holds as many places as the history says.
 //!
@@ -86,6 +87,11 @@ impl Answer {
     /// Whether a request was answered with Rerr.
     pub fn is_rerr(&self, kind: Kind) -> bool {
         kind == Kind::Request && self.number() == 0 && self.reply.first() == Some(&1)
+    }
+
+    /// Whether a text step was answered with ERRFLG -1.
+    pub fn is_text_error(&self, kind: Kind) -> bool {
+        kind == Kind::Text && self.number() == 0 && self.result[1] == 1
     }
 }
 
@@ -308,6 +314,10 @@ impl Pair {
         match (call.kind, self.answer.number()) {
             (Kind::Setup, _) if !buffers() => Some("a setup changed a lent buffer"),
             (Kind::Setup, _) => None,
+            (_, 0) if self.answer.is_text_error(call.kind) => {
+                let same = buffers() && self.record.raw() == self.record_before.raw();
+                (!same).then_some("ERRFLG -1, but something was changed")
+            }
             (_, 0) if !self.answer.is_rerr(call.kind) => None,
             (_, 0) if !buffers() => Some("Rerr, but a lent buffer was changed"),
             (_, 0) if !self.record.same_but_draft(&self.record_before) => {
