@@ -3,6 +3,7 @@
 use crate::make::setup::RULES;
 use crate::make::sorts::SORTS;
 use crate::record::Record;
+use crate::texts::make::Damage;
 use reference::LONGEST_TEXT;
 use std::fmt;
 use steps::Step;
@@ -23,6 +24,8 @@ pub struct Call {
     pub memory: Option<usize>,
     /// The same for the register area.
     pub registers: Option<usize>,
+    /// What was done to the text of a text step, which says what numbers it can have.
+    pub damage: Option<Damage>,
 }
 
 impl Call {

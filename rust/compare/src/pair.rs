@@ -84,6 +84,11 @@ impl Answer {
         }
     }
 
+    /// The text that a text step of number 0 replied.
+    pub fn text(&self) -> &[u8] {
+        self.reply.get(..usize::from(self.result[2])).unwrap_or_default()
+    }
+
     /// Whether a request was answered with Rerr.
     pub fn is_rerr(&self, kind: Kind) -> bool {
         kind == Kind::Request && self.number() == 0 && self.reply.first() == Some(&1)
@@ -333,9 +338,14 @@ impl Pair {
         }
     }
 
-    /// A setup has number 1 just where its arguments were made to break a rule.
+    /// A setup has number 1 just where its arguments were made to break a rule, and a text that was
+    /// damaged, past the other numbers, one that such a text can have.
     fn against_origin(&self, call: &Call) -> Option<String> {
         let number = self.answer.number();
+        if let Some(damage) = call.damage.filter(|damage| !damage.can_have(number)) {
+            let read = matches!(number, 0 | 10);
+            return read.then(|| format!("a text with '{}' has number {number}", damage.name()));
+        }
         match self.origin {
             Origin::Setup(rule) if call.kind == Kind::Setup && rule.is_some() != (number == 1) => {
                 let broken = rule.map_or("no rule is broken", |rule| RULES[rule].name);
@@ -392,10 +402,12 @@ impl Pair {
 mod tests {
     use super::*;
     use crate::archive::archive;
+    use reference::LONGEST_TEXT;
 
     fn step(kind: Kind, pid: u32, input: Vec<u8>) -> Op {
-        let reply = kind.reply().unwrap_or(0);
-        Op::Step(Call { kind, pid, value: 0, input, reply, fill: 0, memory: None, registers: None })
+        let reply = if kind == Kind::Text { LONGEST_TEXT } else { kind.reply().unwrap_or(0) };
+        let (memory, registers, damage) = (None, None, None);
+        Op::Step(Call { kind, pid, value: 0, input, reply, fill: 0, memory, registers, damage })
     }
 
     fn request(kind: u8, number: u32, one: u8) -> Op {
@@ -436,13 +448,24 @@ mod tests {
     #[test]
     fn the_book_is_asked_after_each_step() {
         let nothing = request(0, 0, 0);
-        let told: [(Tell, Op, &str); 6] = [
+        let text = |text: &[u8]| step(Kind::Text, 0, text.to_vec());
+        let told: [(Tell, Op, &str); 8] = [
             (
                 |book| book.outside(3, 0xaa),
                 nothing.clone(),
                 "memory is not plain memory with the traps laid over it",
             ),
             (|book| book.outside(9, 0xaa), request(2, 4_104, 2), "a read is not of plain memory"),
+            (
+                |book| book.outside(9, 0xaa),
+                text(b"0x0 i 0x1008 0x0"),
+                "a word is not that of plain memory",
+            ),
+            (
+                |book| book.outside(9, 0xaa),
+                text(b"0x0 D 0x1008 0x0"),
+                "a word is not that of plain memory",
+            ),
             (
                 |book| book.outside(9, 0xaa),
                 trap(5, 4_104),
