@@ -71,6 +71,10 @@ texts_c() {
     c11 -O2 -Iinclude tests/text_packets.c "$library" -o "$logs/texts_c" && under_valgrind "$logs/texts_c"
 }
 
+text_steps_c() {
+    c11 -O2 -Iinclude tests/text_steps.c "$library" -o "$logs/text_steps_c" && under_valgrind "$logs/text_steps_c"
+}
+
 conditions_c() {
     c11 -O2 -Iinclude tests/conditions.c "$library" -o "$logs/conditions_c" && under_valgrind "$logs/conditions_c"
 }
@@ -91,6 +95,7 @@ check example_rust example_rust
 check examples_equal diff "$logs/kernel_c.txt" "$logs/kernel_rust.txt"
 check images_c images_c
 check texts_c texts_c
+check text_steps_c text_steps_c
 check conditions_c conditions_c
 check wrapper tests_of sanirvoq
 check reference tests_of reference
