@@ -52,7 +52,7 @@ struct Situation<'a> {
 type Named = (&'static str, fn(&Situation<'_>) -> bool);
 
 /// Mostly two faults of one request, of which the first decides.
-const SITUATIONS: [Named; 18] = [
+const SITUATIONS: [Named; 19] = [
     ("letter not served, PID not 0", |met| !met.is_served() && met.packet.pid != 0),
     ("word: PID not 0, unaligned", |met| met.is_word() && met.pid() && !met.is_aligned()),
     ("word: PID not 0, outside", |met| met.is_word() && met.pid() && !met.is_inside()),
@@ -61,6 +61,9 @@ const SITUATIONS: [Named; 18] = [
     ("word: the last before the window", |met| met.word() && met.is_at(met.base() - 4)),
     ("word: the first behind it", |met| met.word() && met.is_at(met.end())),
     ("word: a register's offset", |met| met.word() && met.is_aligned() && met.below(BLOCK)),
+    ("word: a register's offset, Stopped", |met| {
+        met.word() && met.is_aligned() && met.below(BLOCK) && met.stopped()
+    }),
     ("register: PID not 0, no such number", |met| met.is_register() && met.pid() && met.none()),
     ("register: PID not 0, none current", |met| met.is_register() && met.pid() && met.idle()),
     ("register: PID not 0, not Stopped", |met| met.is_register() && met.pid() && met.runs()),

@@ -93,6 +93,10 @@ fn registers_are_those_of_the_current_process() {
     assert_eq!(text(&mut s, "0x0 R 0x21 0x100a"), "0x0 R 0x0 0x1008");
     assert_eq!(s.registers[136 + 132..], [0, 0, 0x10, 0x0a]);
     assert_eq!(s.registers[..136], [0; 136]);
+    for letter in ["i", "d", "I", "D"] {
+        // An address below 136 is no register here.
+        fails(&mut s, &format!("0x0 {letter} 0x84 0x1"), Errno::Efault);
+    }
 }
 
 #[test]
