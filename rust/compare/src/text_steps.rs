@@ -223,6 +223,8 @@ impl TextSteps {
     fn by_number(&self) -> Section {
         let title = "text steps, by number";
         let mut section = Section { title, columns: texts(NUMBERS), rows: Vec::new() };
+        let all = |i: usize| self.rooms.iter().map(|counts| counts[i]).sum();
+        section.row("all", must(&[0, 1, 2, 3, 4].map(all)));
         for (room, counts) in Room::ALL.iter().zip(&self.rooms) {
             let can_be = |number| matches!(number, 2 | 3) || (number == 11) == room.is_short();
             let cell = |(&number, &n)| Cell::where_possible(can_be(number), n);
