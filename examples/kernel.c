@@ -160,6 +160,21 @@ static void condition(struct kernel *kernel, const char *label, char letter, uin
     ask(kernel, label, TCONDBREAK, value, &op, 1);
 }
 
+/* Sends a request of the text dialect, and shows it and its reply. */
+static void ask_text(struct kernel *kernel, const char *request) {
+    uint8_t reply[SANIRVOQ_TEXT];
+    const uint32_t result = sanirvoq_text(&kernel->record, kernel->lent, (const uint8_t *)request, strlen(request),
+                                          reply, sizeof reply);
+    expect_accepted(request, sanirvoq_number(result));
+    const uint8_t filled = sanirvoq_first(result);
+    print_label("text");
+    printf("%s -> %.*s", request, (int)filled, (const char *)reply);
+    if (sanirvoq_answer(result) == 1) {
+        printf("  errno %u", (unsigned)sanirvoq_text_read(reply, filled).packet.fourth);
+    }
+    printf("\n");
+}
+
 /* ---- events ---- */
 
 /* A process comes to a pc where memory holds a trap. */
@@ -240,6 +255,21 @@ static void stop_other(struct kernel *kernel) {
     ask_process(kernel, "Tstatus 7", TSTATUS, 7);
 }
 
+static void speak_text(struct kernel *kernel) {
+    printf("Her bench debugger speaks text. Four bytes are one word, the lowest first.\n");
+    ask_text(kernel, "0x0 i 0x1004 0x0");
+    printf("It writes the word at 0x100c, under breakpoint 9. The answer is the word before.\n");
+    ask_text(kernel, "0x0 D 0x100c 0xf0e0dee");
+    ask_text(kernel, "0x0 d 0x100c 0x0");
+    show_memory(kernel);
+    printf("It asks for the pc: process 7 is current and runs, process 5 is stopped.\n");
+    ask_text(kernel, "0x0 r 0x21 0x0");
+    ask_process(kernel, "Tproc 5", TPROC, 5);
+    ask_text(kernel, "0x0 r 0x21 0x0");
+    ask_text(kernel, "0x0 R 0xa 0x63");
+    ask_text(kernel, "0x0 r 0xa 0x0");
+}
+
 static void be_refused(struct kernel *kernel) {
     printf("A write that leaves the window is refused; so is a trap of a stopped process.\n");
     write_four(kernel, "Tmput 0x103e n 4 01 02 03 04", 0x103e, 0x01020304);
@@ -258,7 +288,7 @@ static void restart(struct kernel *kernel) {
 }
 
 int main(void) {
-    const uint8_t patched[SHOWN] = {0x08, 0xaa, 0xbb, 0xcc, 0xdd, 0x0d, 0x0e, 0x0f};
+    const uint8_t patched[SHOWN] = {0x08, 0xaa, 0xbb, 0xcc, 0xee, 0x0d, 0x0e, 0x0f};
     struct kernel kernel;
     set_up(&kernel);
     printf("The kernel has processes 5 and 7 and lends 64 bytes at 0x1000; byte i is i.\n");
@@ -269,6 +299,7 @@ int main(void) {
     patch(&kernel);
     stop_one(&kernel);
     stop_other(&kernel);
+    speak_text(&kernel);
     be_refused(&kernel);
     restart(&kernel);
     const int kept = memcmp(kernel.lent.memory + (SITE - BASE), patched, SHOWN) == 0;

@@ -129,7 +129,7 @@ enum sanirvoq_number {
     SANIRVOQ_IMAGES = 8,       /* images of unequal length, or longer than SANIRVOQ_IMAGE */
     SANIRVOQ_RUN_LIST = 9,     /* a list that lacks room for the runs of differing bytes */
     SANIRVOQ_NO_PACKET = 10,   /* a letter that no text packet has, or bytes that are no packet's text */
-    SANIRVOQ_TEXT_BUFFER = 11, /* a buffer shorter than SANIRVOQ_TEXT */
+    SANIRVOQ_TEXT_BUFFER = 11, /* a buffer for a text that is shorter than SANIRVOQ_TEXT */
     SANIRVOQ_FRAME = 12        /* a body buffer under SANIRVOQ_FRAME_BUFFER bytes, a framed reply not of
                                 * SANIRVOQ_FRAMED_REPLY, or a sequence past its byte */
 };
@@ -141,8 +141,9 @@ static inline uint8_t sanirvoq_number(uint32_t result) { return (uint8_t)result;
 
 /* Of a trap: 1 Stop (then sanirvoq_first is the breakpoint's id), 2 Pass (then sanirvoq_first and sanirvoq_second are
  * the plain bytes of the instruction, to be run elsewhere). Of a request: 2 where a Tstart let its process go on at a
- * breakpoint (then the plain bytes as of Pass), 0 else. Of a schedule event: 1 the process is to stop, 0 not. Of other
- * steps: 0.
+ * breakpoint (then the plain bytes as of Pass), 0 else. Of a schedule event: 1 the process is to stop, 0 not. Of a text
+ * request: 0 where it was carried out, 1 where its reply is an error and nothing was changed; in both cases
+ * sanirvoq_first is how many bytes of the buffer the reply fills. Of other steps: 0.
  *
  * Where the answer is 2 the breakpoint stands, and memory holds its trap at the process's pc: let go there the process
  * would only run into the trap again. So the kernel runs that instruction elsewhere, with the process's registers, and
@@ -176,6 +177,8 @@ sanirvoq_step sanirvoq_step_schedule;
 sanirvoq_step sanirvoq_step_state;
 /* Uses reply (ten bytes). */
 sanirvoq_step sanirvoq_step_restart;
+/* Uses input (a request of the text dialect, of any length) and reply (SANIRVOQ_TEXT bytes or more). */
+sanirvoq_step sanirvoq_step_text;
 
 /* ---- the same steps with the arguments that each uses ---- */
 
@@ -251,6 +254,34 @@ static inline uint8_t sanirvoq_restart(struct sanirvoq_record *record, struct sa
                                                  reply_length));
 }
 
+/* What a text request that fails is answered with, after the error flag SANIRVOQ_TEXT_ERROR. */
+enum sanirvoq_errno {
+    SANIRVOQ_ESRCH = 3,   /* a PID that is not 0; or registers, and no process is current */
+    SANIRVOQ_EFAULT = 14, /* a word that is not all in the window */
+    SANIRVOQ_EBUSY = 16,  /* registers of a current process that is not Stopped */
+    SANIRVOQ_EINVAL = 22  /* a letter that is not served; an address that is no multiple of 4; a register over 33, or a
+                           * write to register 0 */
+};
+
+/* A request of the text dialect, such as "0x0 i 0x1004 0x0", with no zero byte behind it. Its reply is put at the front
+ * of the buffer, with no zero byte behind it either; the rest of the buffer stays. Letters:
+ *
+ *     i, d   read the word at ADDR
+ *     I, D   write DATA as the word at ADDR; the response is the word that was there
+ *     r      read the register of number ADDR of the current process: 0 to 31, 32 status, 33 pc
+ *     R      write DATA to it; the response is what it held
+ *
+ * A word is the program's, as if there were no trap; its lowest byte is the one at ADDR. Answers a result: numbers 0, 2
+ * (memory or registers of wrong size), 3, 11 (a reply buffer shorter than SANIRVOQ_TEXT) and 10 (no packet's text),
+ * tested in this order. With 0 the text is in the buffer, sanirvoq_first(result) bytes; it repeats PID and letter of
+ * the request. Where sanirvoq_answer(result) is 0 its error flag is 0 and then comes the response; where it is 1 the
+ * error flag is SANIRVOQ_TEXT_ERROR, then comes a sanirvoq_errno, and nothing but the buffer was changed. */
+static inline uint32_t sanirvoq_text(struct sanirvoq_record *record, struct sanirvoq_lent lent, const uint8_t *request,
+                                     size_t request_length, uint8_t *reply, size_t reply_length) {
+    return sanirvoq_step_text(&record->target, record->places, lent.memory, lent.memory_length, lent.registers,
+                              lent.registers_length, 0, 0, request, request_length, reply, reply_length);
+}
+
 /* ---- messages, for the host's side too ---- */
 
 /* A message by its type byte and its fields. A field that the type does not use is ignored when it is written and 0
@@ -305,6 +336,8 @@ struct sanirvoq_comparison sanirvoq_image_differences(const uint8_t *a, size_t a
 /* ---- packets of the text dialect; need no record ---- */
 
 enum { SANIRVOQ_TEXT = 34 }; /* bytes of the longest text, which a buffer must have */
+
+#define SANIRVOQ_TEXT_ERROR UINT32_C(0xffffffff) /* the error flag of a reply that says an error, -1; else it is 0 */
 
 /* Four fields: PID LETTER ADDR DATA, or a reply's PID LETTER ERRFLG RESPONSE. letter: 0x21 to 0x7e. third: the address
  * or the error flag. fourth: the data or the response. */

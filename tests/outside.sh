@@ -71,6 +71,15 @@ texts_c() {
     c11 -O2 -Iinclude tests/text_packets.c "$library" -o "$logs/texts_c" && under_valgrind "$logs/texts_c"
 }
 
+text_steps_c() {
+    c11 -O2 -Iinclude tests/text_steps.c "$library" -o "$logs/text_steps_c" && under_valgrind "$logs/text_steps_c"
+}
+
+text_step_vectors() {
+    c11 -O2 -Iinclude tests/text_step_run.c "$library" -o "$logs/text_step_run" &&
+        python3 tests/text_step_vectors.py valgrind --quiet --error-exitcode=9 "$logs/text_step_run"
+}
+
 conditions_c() {
     c11 -O2 -Iinclude tests/conditions.c "$library" -o "$logs/conditions_c" && under_valgrind "$logs/conditions_c"
 }
@@ -91,6 +100,7 @@ check example_rust example_rust
 check examples_equal diff "$logs/kernel_c.txt" "$logs/kernel_rust.txt"
 check images_c images_c
 check texts_c texts_c
+check text_steps_c text_steps_c
 check conditions_c conditions_c
 check wrapper tests_of sanirvoq
 check reference tests_of reference
@@ -98,6 +108,8 @@ check steps tests_of steps
 [ ! -f rust/bench_stub/Cargo.toml ] || check bench_stub tests_of bench_stub
 check show_session python3 tests/show_session_test.py
 [ ! -x target/bin/program_main ] || check protocol_examples python3 tests/protocol_examples.py
+check text_step_vectors text_step_vectors
+check protocol_text python3 tests/protocol_examples.py --text "$logs/text_step_run"
 [ ! -x target/bin/calls_main ] || check calls_examples python3 tests/calls_examples.py
 [ ! -f tests/calls_vectors.py ] || check calls_vectors python3 tests/calls_vectors.py --check
 [ ! -f tests/wire_vectors.py ] || check wire_vectors python3 tests/wire_vectors.py --check

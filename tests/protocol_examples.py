@@ -2,15 +2,20 @@
 """Run the examples of docs/PROTOCOL.md.
 
     python3 tests/protocol_examples.py [PROGRAM]        target/bin/program_main unless given
+    python3 tests/protocol_examples.py --text PROGRAM   those with text, by tests/text_step_run.c
 
 Each block marked `session` is one run. A line is a step and, after `<`, its answer without the number, which is 0:
-`> TEN BYTES`, `trap PID PC`, `schedule PID PC`, `state PID VALUE` or `restart`.
+`> TEN BYTES`, `trap PID PC`, `schedule PID PC`, `state PID VALUE` or `restart`. A block marked `text-session` has no
+`trap` and no `state`, but `text REQUEST` with its reply after `<`, and `text ROOM: REQUEST` over a buffer of so many
+bytes, with its number after `<`.
 """
 
 import re
 import subprocess
 import sys
 from pathlib import Path
+
+import text_step_vectors as vectors
 
 ROOT = Path(__file__).resolve().parent.parent
 DOCUMENT = ROOT / "docs" / "PROTOCOL.md"
@@ -41,28 +46,63 @@ def encoded(text):
     raise ValueError(f"no step: {text}")
 
 
-def sessions():
-    """The lines of each block, as pairs of a step's text and its answer."""
-    for block in re.findall(r"^```session\n(.*?)^```$", DOCUMENT.read_text(), re.DOTALL | re.MULTILINE):
-        yield [(step.strip(), bytes.fromhex(answer)) for step, answer in
-               (line.split("<") for line in block.splitlines())]
+def blocks(mark):
+    """The lines of each block with this mark, as pairs of a step's text and its answer."""
+    for block in re.findall(rf"^```{mark}\n(.*?)^```$", DOCUMENT.read_text(), re.DOTALL | re.MULTILINE):
+        yield [tuple(part.strip() for part in line.split("<")) for line in block.splitlines()]
 
 
-def main():
-    program = Path(sys.argv[1] if len(sys.argv) > 1 else ROOT / "target" / "bin" / "program_main").resolve()
+def run(program, data):
+    return subprocess.run([program], input=data, stdout=subprocess.PIPE, check=True).stdout
+
+
+def session(program):
+    """Runs the blocks of the program of 01. Gives how many steps there are, and how many answers are wrong."""
     count = wrong = 0
-    for session in sessions():
-        data = b"".join(encoded(step) for step, _ in session)
-        output = subprocess.run([program], input=data, stdout=subprocess.PIPE, check=True).stdout
-        for step, answer in session:
+    for block in blocks("session"):
+        output = run(program, b"".join(encoded(step) for step, _ in block))
+        for step, answer in block:
             count += 1
-            got, output = output[:1 + len(answer)], output[1 + len(answer):]
-            if got != b"\x00" + answer:
+            wanted = b"\x00" + bytes.fromhex(answer)
+            got, output = output[:len(wanted)], output[len(wanted):]
+            if got != wanted:
                 wrong += 1
                 print(f"{step}: {got.hex(' ')}")
         if output:
             wrong += 1
             print(f"left over: {output.hex(' ')}")
+    return count, wrong
+
+
+def text_pair(step, answer):
+    """A step of a text session as tests/text_step_vectors.py has it, with its answer."""
+    if not step.startswith("text "):
+        kind, body = encoded(step)[0], encoded(step)[1:]
+        arguments = [int.from_bytes(body[:4], "big"), body[4:]] if kind == vectors.SCHEDULE else [body]
+        return (kind, *arguments), bytes.fromhex(answer)
+    room, text = re.fullmatch(r"text (?:(\d+): )?(.*)", step).groups()
+    made = vectors.TEXT, text.encode(), int(room or vectors.LEAST_BUFFER)
+    if room:
+        return made, (int(answer), 0, b"")
+    return made, (vectors.ACCEPTED, int(answer.split()[2] == "0xffffffff"), answer.encode())
+
+
+def text_session(program):
+    """The same of the blocks with text."""
+    count = wrong = 0
+    for block in blocks("text-session"):
+        steps = [((vectors.BEGIN,), b""), *(text_pair(*line) for line in block)]
+        count += len(block)
+        wrong += vectors.compare(steps, [program])
+    return count, wrong
+
+
+def main():
+    arguments = sys.argv[1:]
+    with_text = arguments[:1] == ["--text"]
+    default = [ROOT / "target" / "bin" / "program_main"]
+    program, = arguments[with_text:] or default
+    count, wrong = (text_session if with_text else session)(Path(program).resolve())
     print(f"{count} steps of {DOCUMENT.name}, {wrong} wrong")
     return 1 if wrong or not count else 0
 

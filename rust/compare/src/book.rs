@@ -21,6 +21,10 @@ pub fn feed(book: &mut Book, call: &Call, registers: &[u8], proved: &Answer) -> 
         }
         (Kind::Schedule, [_, answer, ..]) => book.schedule(call.pid, answer == 1),
         (Kind::Restart, _) => book.restart(),
+        (Kind::Text, [_, _, filled, _]) => {
+            let reply = proved.reply.get(..usize::from(filled));
+            book.text(&call.input, reply.ok_or("a reply is longer than its buffer")?)?;
+        }
         (Kind::Setup | Kind::State, _) => {}
     }
     Ok(())

@@ -3,7 +3,7 @@
 use crate::op::{Call, Kind};
 use crate::raw::held;
 use crate::record::Record;
-use reference::{fit, Refusal, Stub, Verdict, BLOCK, PROCESSES};
+use reference::{fit, Refusal, Stub, TextServed, Verdict, BLOCK, PROCESSES};
 use sanirvoq::ffi;
 
 /// The record that the independent side has.
@@ -55,13 +55,20 @@ impl Held {
         reply: &mut [u8],
     ) -> u32 {
         let done = match (call.kind, &mut *self) {
-            (Kind::Setup, _) => self.setup(memory, registers),
-            (_, Self::Raw(_)) => Err(self.raw_refusal(call, memory, registers)),
-            (_, Self::Stub(stub)) => stub_step(stub, call, memory, registers, reply),
+            (Kind::Setup, _) => self.setup(memory, registers).map_err(Refusal::number),
+            (_, Self::Raw(_)) => Err(self.raw_refusal(call, memory, registers).number()),
+            (Kind::Text, Self::Stub(stub)) => {
+                let served = stub.text(memory, registers, &call.input, reply);
+                served.map(text_answer).map_err(|refusal| refusal.number())
+            }
+            (_, Self::Stub(stub)) => {
+                stub_step(stub, call, memory, registers, reply).map_err(Refusal::number)
+            }
         };
-        let [answer, first, second] = done.unwrap_or_default();
-        let number = done.map_or_else(Refusal::number, |_| 0);
-        u32::from_le_bytes([number, answer, first, second])
+        match done {
+            Ok([answer, first, second]) => u32::from_le_bytes([0, answer, first, second]),
+            Err(number) => number.into(),
+        }
     }
 
     /// Setup takes its arguments from the record, whatever else that holds.
@@ -99,7 +106,7 @@ impl Held {
     }
 }
 
-/// A step other than setup. Gives the three bytes of the answer.
+/// A step other than setup and text. Gives the three bytes of the answer.
 fn stub_step(
     stub: &mut Stub,
     call: &Call,
@@ -120,6 +127,11 @@ fn stub_step(
             Ok(plain.map_or([0; 3], |plain| packed(Verdict::Pass(plain))))
         }
     }
+}
+
+/// Whether ERRFLG is -1, and how much of the buffer is filled.
+fn text_answer(TextServed { done, filled }: TextServed) -> [u8; 3] {
+    [u8::from(done.is_err()), filled as u8, 0]
 }
 
 fn packed(verdict: Verdict) -> [u8; 3] {

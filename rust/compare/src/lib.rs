@@ -10,7 +10,8 @@
 //! - [`images`]: image differences, a call without a session: pairs, both sides, counts
 //! - [`texts`]: text packets, calls without a session: packets and damaged texts, both sides, counts
 //! - [`make`]: makes the lists, from a seed; the steps of a session come from `rust/steps`
-//! - [`tally`]: counts what was reached, besides what `rust/steps` counts
+//! - [`tally`]: counts what was reached, besides what `rust/steps` counts, and by itself what text
+//!   steps reached
 //! - [`run`] and [`shrink`]: the whole run, and the short list where the sides differ
 
 #![deny(unsafe_code)]
@@ -28,4 +29,5 @@ pub mod record;
 pub mod run;
 pub mod shrink;
 pub mod tally;
+mod text_steps;
 pub mod texts;

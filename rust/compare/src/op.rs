@@ -3,6 +3,8 @@
 use crate::make::setup::RULES;
 use crate::make::sorts::SORTS;
 use crate::record::Record;
+use crate::texts::make::Damage;
+use reference::LONGEST_TEXT;
 use std::fmt;
 use steps::Step;
 
@@ -22,14 +24,16 @@ pub struct Call {
     pub memory: Option<usize>,
     /// The same for the register area.
     pub registers: Option<usize>,
+    /// What was done to the text of a text step, which says what numbers it can have.
+    pub damage: Option<Damage>,
 }
 
 impl Call {
-    /// The step, where it is none of setup and its input has the right size.
+    /// The step, where the program has its kind and its input has the right size.
     pub fn step(&self) -> Option<Step> {
         let pid = self.pid;
         Some(match self.kind {
-            Kind::Setup => return None,
+            Kind::Setup | Kind::Text => return None,
             Kind::Request => Step::Request(self.input[..].try_into().ok()?),
             Kind::Trap => Step::Trap { pid, block: self.input[..].try_into().ok()? },
             Kind::Schedule => Step::Schedule { pid, block: self.input[..].try_into().ok()? },
@@ -98,10 +102,14 @@ impl fmt::Display for Call {
         if self.kind == Kind::State {
             write!(out, " value {:02x}", self.value)?;
         }
-        if self.kind.input().is_some() {
+        if self.kind == Kind::Text {
+            write!(out, " {:?}", String::from_utf8_lossy(&self.input))?;
+        }
+        if self.kind.input().is_some() || self.kind == Kind::Text {
             write!(out, " input {}", Hex(&self.input))?;
         }
-        if self.kind.reply().is_some() && self.reply != reference::MESSAGE {
+        let usual = if self.kind == Kind::Text { Some(LONGEST_TEXT) } else { self.kind.reply() };
+        if usual.is_some_and(|usual| usual != self.reply) {
             write!(out, " reply of {:#x} bytes", self.reply)?;
         }
         for (name, length) in [("memory", self.memory), ("registers", self.registers)] {

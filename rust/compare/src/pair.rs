@@ -10,7 +10,8 @@
 //! - after a number other than 0, that nothing changed: no byte of the record, of memory, registers
 //!   or reply (a setup changes no buffer at all, and a refused one empties the record);
 //! - after Rerr, that memory, registers and all of the record but the condition in hand and the
-//!   places that no breakpoint holds are as before;
+//!   places that no breakpoint holds are as before; after a text step with ERRFLG -1, that all of the
+//!   record is, the condition in hand and every place too;
 //! - in a session, the claims of the book of demand 3, that the record has what the book has, and
 //!   that it holds as many places as the history says.
 //!
@@ -83,9 +84,19 @@ impl Answer {
         }
     }
 
+    /// The text that a text step of number 0 replied.
+    pub fn text(&self) -> &[u8] {
+        self.reply.get(..usize::from(self.result[2])).unwrap_or_default()
+    }
+
     /// Whether a request was answered with Rerr.
     pub fn is_rerr(&self, kind: Kind) -> bool {
         kind == Kind::Request && self.number() == 0 && self.reply.first() == Some(&1)
+    }
+
+    /// Whether a text step was answered with ERRFLG -1.
+    pub fn is_text_error(&self, kind: Kind) -> bool {
+        kind == Kind::Text && self.number() == 0 && self.result[1] == 1
     }
 }
 
@@ -308,6 +319,10 @@ impl Pair {
         match (call.kind, self.answer.number()) {
             (Kind::Setup, _) if !buffers() => Some("a setup changed a lent buffer"),
             (Kind::Setup, _) => None,
+            (_, 0) if self.answer.is_text_error(call.kind) => {
+                let same = buffers() && self.record.raw() == self.record_before.raw();
+                (!same).then_some("ERRFLG -1, but something was changed")
+            }
             (_, 0) if !self.answer.is_rerr(call.kind) => None,
             (_, 0) if !buffers() => Some("Rerr, but a lent buffer was changed"),
             (_, 0) if !self.record.same_but_draft(&self.record_before) => {
@@ -323,9 +338,14 @@ impl Pair {
         }
     }
 
-    /// A setup has number 1 just where its arguments were made to break a rule.
+    /// A setup has number 1 just where its arguments were made to break a rule, and a text that was
+    /// damaged, past the other numbers, one that such a text can have.
     fn against_origin(&self, call: &Call) -> Option<String> {
         let number = self.answer.number();
+        if let Some(damage) = call.damage.filter(|damage| !damage.can_have(number)) {
+            let read = matches!(number, 0 | 10);
+            return read.then(|| format!("a text with '{}' has number {number}", damage.name()));
+        }
         match self.origin {
             Origin::Setup(rule) if call.kind == Kind::Setup && rule.is_some() != (number == 1) => {
                 let broken = rule.map_or("no rule is broken", |rule| RULES[rule].name);
@@ -382,10 +402,12 @@ impl Pair {
 mod tests {
     use super::*;
     use crate::archive::archive;
+    use reference::LONGEST_TEXT;
 
     fn step(kind: Kind, pid: u32, input: Vec<u8>) -> Op {
-        let reply = kind.reply().unwrap_or(0);
-        Op::Step(Call { kind, pid, value: 0, input, reply, fill: 0, memory: None, registers: None })
+        let reply = if kind == Kind::Text { LONGEST_TEXT } else { kind.reply().unwrap_or(0) };
+        let (memory, registers, damage) = (None, None, None);
+        Op::Step(Call { kind, pid, value: 0, input, reply, fill: 0, memory, registers, damage })
     }
 
     fn request(kind: u8, number: u32, one: u8) -> Op {
@@ -426,13 +448,24 @@ mod tests {
     #[test]
     fn the_book_is_asked_after_each_step() {
         let nothing = request(0, 0, 0);
-        let told: [(Tell, Op, &str); 6] = [
+        let text = |text: &[u8]| step(Kind::Text, 0, text.to_vec());
+        let told: [(Tell, Op, &str); 8] = [
             (
                 |book| book.outside(3, 0xaa),
                 nothing.clone(),
                 "memory is not plain memory with the traps laid over it",
             ),
             (|book| book.outside(9, 0xaa), request(2, 4_104, 2), "a read is not of plain memory"),
+            (
+                |book| book.outside(9, 0xaa),
+                text(b"0x0 i 0x1008 0x0"),
+                "a word is not that of plain memory",
+            ),
+            (
+                |book| book.outside(9, 0xaa),
+                text(b"0x0 D 0x1008 0x0"),
+                "a word is not that of plain memory",
+            ),
             (
                 |book| book.outside(9, 0xaa),
                 trap(5, 4_104),

@@ -4,7 +4,8 @@ use crate::make::setup::RULES;
 use crate::make::sorts::{Expect, SORTS};
 use crate::op::{Call, Kind, Op, Origin};
 use crate::pair::{Pair, Seen};
-use reference::{BLOCK, PC};
+use crate::text_steps::TextSteps;
+use reference::{read_text, BLOCK, PC};
 use steps::places::Held;
 use steps::table::{lacking, must, table, texts, Cell, Section};
 use steps::tally::{letter_index, letters_but, word};
@@ -18,6 +19,7 @@ const NUMBERS: [&[usize]; 6] =
 
 pub struct Tally {
     steps: steps::tally::Tally,
+    texts: TextSteps,
     /// Letters that were evaluated in a trap, and `*` that read outside the window.
     evaluated: [u64; 11],
     read_outside: u64,
@@ -40,6 +42,7 @@ impl Default for Tally {
     fn default() -> Self {
         Self {
             steps: steps::tally::Tally::default(),
+            texts: TextSteps::default(),
             evaluated: [0; 11],
             read_outside: 0,
             rules: [0; RULES.len()],
@@ -76,9 +79,14 @@ impl Tally {
     fn step(&mut self, call: &Call, before: (u32, u32), places: Held, pair: &Pair) {
         let answer = pair.answer();
         let stub = pair.scene().map(|scene| scene.stub);
-        self.steps.number(call.kind as usize, answer.number(), stub);
+        if call.kind == Kind::Text {
+            self.texts.count(call, answer.number(), answer.text(), stub);
+        } else {
+            self.steps.number(call.kind as usize, answer.number(), stub);
+        }
         match (call.kind, answer.number()) {
             (_, 2) => self.wrong_sizes(call, before, pair),
+            (Kind::Text, 0) => self.text(call, pair),
             (Kind::Setup, 0) => self.session(before, pair),
             (Kind::Setup, _) => self.refused_setup(),
             (_, 0) => self.accepted(call, places, pair),
@@ -96,6 +104,15 @@ impl Tally {
         }
         if call.kind == Kind::Trap {
             self.trap(call, pair);
+        }
+    }
+
+    /// A text step that wrote a saved pc is why a later Tstart finds it.
+    fn text(&mut self, call: &Call, pair: &Pair) {
+        let writes = read_text(&call.input).is_ok_and(|one| (one.letter, one.third) == (b'R', 33));
+        let done = writes && !pair.answer().is_text_error(call.kind);
+        if let Some(scene) = pair.scene().filter(|_| done && pair.book().is_some()) {
+            self.steps.continues.take_text(scene.stub, scene.registers);
         }
     }
 
@@ -153,23 +170,15 @@ impl Tally {
             sections;
         by_number.row("outside change", must(&[self.outside]));
         by_number.row("register area replaced", must(&[self.areas]));
+        by_pc.row("Stopped, the pc written by R", must(&self.steps.continues.written_by_text()));
         by_pc.row("Stopped, the register area replaced", must(&self.steps.continues.replaced()));
         by_letter.row("evaluated in a trap", letters_but(b"nbd", &self.evaluated));
         by_letter.row("* outside the window", must(&[self.read_outside]));
-        vec![
-            by_number,
-            by_type,
-            by_answer,
-            by_pc,
-            by_letter,
-            refused,
-            held,
-            by_elements,
-            self.by_window(),
-            self.by_rule(),
-            self.by_size(),
-            self.by_sort(),
-        ]
+        let mut sections =
+            vec![by_number, by_type, by_answer, by_pc, by_letter, refused, held, by_elements];
+        sections.extend(self.texts.sections());
+        sections.extend([self.by_window(), self.by_rule(), self.by_size(), self.by_sort()]);
+        sections
     }
 
     fn by_window(&self) -> Section {

@@ -17,6 +17,10 @@ fn is_rerr(call: &Call, lent: &Lent<'_>) -> bool {
     call.kind == Kind::Request && lent.reply.first() == Some(&1)
 }
 
+fn is_text_error(call: &Call, result: u32) -> bool {
+    call.kind == Kind::Text && result.to_le_bytes()[..2] == [0, 1]
+}
+
 fn is_type(call: &Call, kind: u8) -> bool {
     call.kind == Kind::Request && call.input.first() == Some(&kind)
 }
@@ -30,6 +34,7 @@ fn is_served(call: &Call, lent: &Lent<'_>, number: u8) -> bool {
 macro_rules! faulty {
     (|$call:ident, $lent:ident, $number:ident, $result:ident| $fault:expr) => {
         |$call: &Call, $lent: &mut Lent<'_>| {
+            #[allow(unused_mut)]
             let mut $result = archive($call, $lent);
             let $number = $result as u8;
             $fault;
@@ -242,8 +247,8 @@ fn what_nobody_sees() {
             (entry.id, entry.site) = (entry.id.wrapping_add(1), !entry.site);
         }
     }
-    let accepted: Stub = faulty!(|call, lent, number, _result| {
-        if number == 0 && !is_rerr(call, lent) {
+    let accepted: Stub = faulty!(|call, lent, number, result| {
+        if number == 0 && !is_rerr(call, lent) && !is_text_error(call, result) {
             forget(lent);
         }
     });
@@ -254,9 +259,11 @@ fn what_nobody_sees() {
         lent.record.bytes_mut()[PADDING] ^= call.fill;
     });
     assert_eq!(found(padding, 50_000), None);
-    let unheld: Stub = faulty!(|_call, lent, number, _result| if number == 0 {
-        let held = held(lent.record);
-        lent.record.raw_mut().places[2 * held..].fill(0xffff_ffff);
+    let unheld: Stub = faulty!(|call, lent, number, result| {
+        if number == 0 && !is_text_error(call, result) {
+            let held = held(lent.record);
+            lent.record.raw_mut().places[2 * held..].fill(0xffff_ffff);
+        }
     });
     assert_eq!(found(unheld, 50_000), None);
     let rerr: Stub = faulty!(|call, lent, number, _result| {
@@ -265,6 +272,17 @@ fn what_nobody_sees() {
         }
     });
     assert_eq!(found(rerr, 50_000).as_deref(), Some("Rerr, but the record was changed"));
+    let errors: [Stub; 2] = [
+        faulty!(|call, lent, _number, result| if is_text_error(call, result) {
+            forget(lent);
+        }),
+        faulty!(|call, lent, _number, result| if is_text_error(call, result) {
+            lent.record.raw_mut().places[255] ^= 1;
+        }),
+    ];
+    for fault in errors {
+        assert_eq!(found(fault, 50_000).as_deref(), Some("ERRFLG -1, but something was changed"));
+    }
     let refused: Stub = faulty!(|_call, lent, number, _result| if number > 3 {
         forget(lent);
     });

@@ -9,7 +9,8 @@ use compare::shrink::{replay, shrink};
 fn step(kind: Kind, input: &[u8]) -> Op {
     let reply = kind.reply().unwrap_or(0);
     let input = input.to_vec();
-    Op::Step(Call { kind, pid: 5, value: 3, input, reply, fill: 0, memory: None, registers: None })
+    let (memory, registers, damage) = (None, None, None);
+    Op::Step(Call { kind, pid: 5, value: 3, input, reply, fill: 0, memory, registers, damage })
 }
 
 fn request(kind: u8, number: u32, one: u8) -> Op {

@@ -1,8 +1,8 @@
 //! The book of demand 3. It is fed the setup, the accepted steps with their answers, and outside
 //! changes, and takes nothing from a record; it shares no rule with the stub. A step whose number
-//! is not 0 changes nothing, so it is not fed; Rerr is seen here.
+//! is not 0 changes nothing, so it is not fed; Rerr and ERRFLG -1 are seen here.
 
-use crate::{word, Verdict, BLOCK, MESSAGE, PC, TRAP};
+use crate::{read_text, word, Verdict, BLOCK, MESSAGE, PC, TRAP};
 
 /// What is claimed of an answer or of memory; the text says what is broken.
 pub type Claim = Result<(), &'static str>;
@@ -111,6 +111,27 @@ impl Book {
         }
     }
 
+    /// A text step of number 0, with the text of its reply. A word that it answers is the plain one
+    /// before the step, and `I` and `D` are accepted writes. ERRFLG -1 changes nothing here.
+    pub fn text(&mut self, request: &[u8], reply: &[u8]) -> Claim {
+        let request = read_text(request).map_err(|_| "a text was served that is no packet")?;
+        let reply = read_text(reply).map_err(|_| "a reply is no packet")?;
+        if (reply.pid, reply.letter) != (request.pid, request.letter) {
+            return Err("a reply has not the PID and the letter of its request");
+        }
+        match (reply.third, request.letter) {
+            (0, b'i' | b'd') => self.word(request.third, reply.fourth).map(drop),
+            (0, b'I' | b'D') => {
+                let at = self.word(request.third, reply.fourth)?;
+                self.plain[at..at + 4].copy_from_slice(&request.fourth.to_le_bytes());
+                Ok(())
+            }
+            (0, b'r' | b'R') | (u32::MAX, _) => Ok(()),
+            (0, _) => Err("a letter was served that is not listed"),
+            _ => Err("an error flag is neither 0 nor -1"),
+        }
+    }
+
     /// A trap event of number 0 answers by the book's breakpoints and plain memory.
     pub fn trap(&mut self, pid: u32, block: &[u8; BLOCK], verdict: Verdict) -> Claim {
         let one = self.planted_at(word(&block[PC..])).ok_or("a trap where no breakpoint is")?;
@@ -188,6 +209,16 @@ impl Book {
             Some(at) if self.plain[at..at + n] != *answer => Err("a read is not of plain memory"),
             _ if rest.iter().any(|&byte| byte != 0) => Err("a read answers more than n bytes"),
             _ => Ok(()),
+        }
+    }
+
+    /// Where a word that was answered is in the window. It is plain memory's, low-order first.
+    fn word(&self, address: u32, answered: u32) -> Result<usize, &'static str> {
+        let at = self.place(address, 4).ok_or("a word was served that is not in the window")?;
+        if self.plain[at..at + 4] == answered.to_le_bytes() {
+            Ok(at)
+        } else {
+            Err("a word is not that of plain memory")
         }
     }
 

@@ -1,6 +1,6 @@
 //! An independent reference of the debug stub that document 01 describes, with requests Two (a
-//! breakpoint survives a continue) and Seven (all elements share 128 places) of 02, and of the calls
-//! that document 02 adds.
+//! breakpoint survives a continue), Three (the text dialect) and Seven (all elements share 128 places)
+//! of 02, and of the calls that document 02 adds.
 //!
 //! It is written from the papers alone and shares nothing with the product. The stub lives in a
 //! [`Stub`]; memory and the register area are lent to every step. A step is refused by a
@@ -22,6 +22,7 @@ mod program;
 mod record;
 mod request;
 mod text;
+mod text_step;
 mod window;
 
 pub use book::{Book, Claim, Condition, Evaluation, Planted};
@@ -34,6 +35,7 @@ pub use places::Places;
 pub use program::{body_length, Output, Session};
 pub use record::{fit, Breakpoint, Draft, Process, Refusal, Stub};
 pub use text::{read_text, write_text, NotText, TextPacket, LONGEST_TEXT};
+pub use text_step::{Errno, NotServed, TextServed};
 
 /// The bytes of a message, of a request and of a reply.
 pub const MESSAGE: usize = 10;

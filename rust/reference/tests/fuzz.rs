@@ -4,7 +4,8 @@ mod common;
 
 use common::*;
 use reference::{
-    body_length, fit, Breakpoint, Draft, Element, Process, Refusal, Session, Stub, ELEMENTS, PLACES,
+    body_length, fit, Breakpoint, Draft, Element, NotServed, Process, Refusal, Session, Stub,
+    ELEMENTS, PLACES,
 };
 
 /// A number that is often near a bound.
@@ -164,6 +165,47 @@ fn setups() {
             }
         }
     }
+}
+
+/// A text of four fields, now and then with a byte changed.
+fn any_text(rng: &mut Rng) -> Vec<u8> {
+    let letter = char::from(b"iIdDrRcs!~"[rng.below(10) as usize]);
+    let pid = if rng.below(8) == 0 { number(rng) } else { 0 };
+    let mut text = format!("{pid:#x} {letter} {:#x} {:#x}", number(rng), number(rng)).into_bytes();
+    if rng.below(8) == 0 {
+        let place = rng.below(text.len() as u64) as usize;
+        text[place] = rng.next() as u8;
+    }
+    text
+}
+
+/// Text steps over records of anything and buffers of any size: no number but theirs, and none but 0
+/// changes anything.
+#[test]
+fn text_steps() {
+    let mut rng = Rng(15);
+    let mut numbers = [0u64; 12];
+    for _ in 0..200_000 {
+        let mut s = changed(&mut rng);
+        if rng.below(9) == 0 {
+            s.memory.truncate(rng.below(64) as usize);
+        }
+        let (before, was_fit) = (s.clone(), fit(&s.stub, &s.memory));
+        let text = any_text(&mut rng);
+        let mut answer = vec![0xee; 30 + rng.below(30) as usize];
+        let Session { stub, memory, registers } = &mut s;
+        let done = stub.text(memory, registers, &text, &mut answer);
+        let number = done.map_or_else(NotServed::number, |_| 0);
+        numbers[usize::from(number)] += 1;
+        if done.map_or(true, |served| served.done.is_err()) {
+            assert_eq!(s, before);
+        }
+        assert_eq!(number == 0, answer[0] == b'0');
+        assert!(number == 2 || (number == 3) != was_fit);
+        assert!(!was_fit || fit(&s.stub, &s.memory) || number == 2);
+    }
+    let reached: Vec<usize> = (0..12).filter(|&i| numbers[i] > 0).collect();
+    assert_eq!(reached, [0, 2, 3, 10, 11], "{numbers:?}");
 }
 
 /// Random bytes as the program's steps; the record stays fit.

@@ -2,7 +2,7 @@
 //! step by step. `examples/kernel.c` is the same in C and prints the same text, which is kept in
 //! `examples/kernel.txt`.
 
-use sanirvoq::{Refusal, Served, Stub, Verdict, BLOCK, MESSAGE};
+use sanirvoq::{Refusal, Served, Stub, Verdict, BLOCK, MESSAGE, TEXT};
 
 const BASE: u32 = 0x1000;
 const SIZE: u8 = 64;
@@ -145,6 +145,20 @@ impl Kernel {
         Ok(())
     }
 
+    /// Sends a request of the text dialect, and shows it and its reply.
+    fn ask_text(&mut self, request: &str) -> Result<(), Refusal> {
+        let (memory, registers) = (&mut self.memory, &mut self.registers);
+        let mut reply = [0; TEXT];
+        let served = self.stub.text(memory, registers, request.as_bytes(), &mut reply)?;
+        let error = match served.reply() {
+            Ok(_) => String::new(),
+            Err(errno) => format!("  errno {}", errno.number()),
+        };
+        let reply = String::from_utf8_lossy(served.text());
+        line("text", &format!("{request} -> {reply}{error}"));
+        Ok(())
+    }
+
     fn set_breakpoints(&mut self) -> Result<(), Refusal> {
         println!("She sets breakpoint 4 at 0x1008 for process 7 only, and 9 at 0x100c for all.");
         self.ask("Tcondbreak n 4", TCONDBREAK, 4, b"n")?;
@@ -198,6 +212,23 @@ impl Kernel {
         self.ask("Tstatus 7", TSTATUS, 7, &[])
     }
 
+    fn speak_text(&mut self) -> Result<(), Refusal> {
+        println!("Her bench debugger speaks text. Four bytes are one word, the lowest first.");
+        self.ask_text("0x0 i 0x1004 0x0")?;
+        println!(
+            "It writes the word at 0x100c, under breakpoint 9. The answer is the word before."
+        );
+        self.ask_text("0x0 D 0x100c 0xf0e0dee")?;
+        self.ask_text("0x0 d 0x100c 0x0")?;
+        self.show_memory();
+        println!("It asks for the pc: process 7 is current and runs, process 5 is stopped.");
+        self.ask_text("0x0 r 0x21 0x0")?;
+        self.ask("Tproc 5", TPROC, 5, &[])?;
+        self.ask_text("0x0 r 0x21 0x0")?;
+        self.ask_text("0x0 R 0xa 0x63")?;
+        self.ask_text("0x0 r 0xa 0x0")
+    }
+
     fn be_refused(&mut self) -> Result<(), Refusal> {
         println!("A write that leaves the window is refused; so is a trap of a stopped process.");
         self.ask("Tmput 0x103e n 4 01 02 03 04", TMPUT, 0x103e, &[4, 1, 2, 3, 4])?;
@@ -226,8 +257,9 @@ fn main() -> Result<(), Refusal> {
     kernel.patch()?;
     kernel.stop_one()?;
     kernel.stop_other()?;
+    kernel.speak_text()?;
     kernel.be_refused()?;
     kernel.restart()?;
-    assert_eq!(kernel.at_site(), [0x08, 0xaa, 0xbb, 0xcc, 0xdd, 0x0d, 0x0e, 0x0f]);
+    assert_eq!(kernel.at_site(), [0x08, 0xaa, 0xbb, 0xcc, 0xee, 0x0d, 0x0e, 0x0f]);
     Ok(())
 }

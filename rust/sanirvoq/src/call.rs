@@ -6,7 +6,7 @@ use crate::ffi::{TextFound, TextPacket, TextWritten};
 use crate::{BLOCK, MESSAGE};
 use core::slice;
 
-/// The archive's six steps.
+/// The archive's seven steps.
 #[derive(Debug, Clone, Copy, PartialEq, Eq)]
 pub enum Kind {
     /// A setup.
@@ -21,12 +21,21 @@ pub enum Kind {
     State,
     /// A restart.
     Restart,
+    /// A request of the text dialect.
+    Text,
 }
 
 impl Kind {
     /// All of them.
-    pub const ALL: [Self; 6] =
-        [Self::Setup, Self::Request, Self::Trap, Self::Schedule, Self::State, Self::Restart];
+    pub const ALL: [Self; 7] = [
+        Self::Setup,
+        Self::Request,
+        Self::Trap,
+        Self::Schedule,
+        Self::State,
+        Self::Restart,
+        Self::Text,
+    ];
 
     /// The name that its function ends with.
     pub fn name(self) -> &'static str {
@@ -37,10 +46,11 @@ impl Kind {
             Self::Schedule => "schedule",
             Self::State => "state",
             Self::Restart => "restart",
+            Self::Text => "text",
         }
     }
 
-    /// The bytes of input that it is to be lent, where it uses input.
+    /// The bytes of input that it is to be lent, where these are fixed.
     pub fn input(self) -> Option<usize> {
         match self {
             Self::Request => Some(MESSAGE),
@@ -49,7 +59,7 @@ impl Kind {
         }
     }
 
-    /// The bytes of reply that it is to be lent, where it uses the reply.
+    /// The bytes of reply that it is to be lent, where these are fixed.
     pub fn reply(self) -> Option<usize> {
         matches!(self, Self::Request | Self::Restart).then_some(MESSAGE)
     }
@@ -65,6 +75,7 @@ impl Kind {
             Self::Schedule => Some(ffi::sanirvoq_step_schedule),
             Self::State => Some(ffi::sanirvoq_step_state),
             Self::Restart => Some(ffi::sanirvoq_step_restart),
+            Self::Text => Some(ffi::sanirvoq_step_text),
         }
     }
 }
@@ -85,7 +96,7 @@ pub struct Lent<'a> {
     pub pid: u32,
     /// The value of a state event.
     pub value: u8,
-    /// A request, or the saved block of an event.
+    /// A request, of ten bytes or of text, or the saved block of an event.
     pub input: &'a [u8],
     /// Where a request or a restart is answered.
     pub reply: &'a mut [u8],

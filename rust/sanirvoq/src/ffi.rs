@@ -294,6 +294,8 @@ steps!((
     sanirvoq_step_state,
     /// A restart.
     sanirvoq_step_restart,
+    /// A request of the text dialect.
+    sanirvoq_step_text,
 });
 
 unsafe extern "C" {

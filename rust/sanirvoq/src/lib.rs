@@ -48,6 +48,7 @@ mod places;
 mod refusal;
 mod stub;
 mod text;
+mod text_step;
 
 pub use ffi::{FrameReader, Run, TextPacket};
 pub use frame::{frame_reply, Answer, Answers, Frames, NotFramed};
@@ -57,6 +58,7 @@ pub use places::Element;
 pub use refusal::Refusal;
 pub use stub::{Served, Stub, Verdict};
 pub use text::{read_text, write_text, NotText};
+pub use text_step::{Errno, Space, TextReply, TextRequest, TextServed};
 
 /// The bytes of a message, of a request and of a reply.
 pub const MESSAGE: usize = 10;
@@ -64,7 +66,8 @@ pub const MESSAGE: usize = 10;
 pub const BLOCK: usize = 136;
 /// The bytes of the longest image that [`differences`] takes.
 pub const IMAGE: usize = 65_536;
-/// The bytes of the longest text of a packet, which the buffer of [`write_text`] must have.
+/// The bytes of the longest text of a packet, which the buffers of [`write_text`] and of
+/// [`Stub::text`] must have.
 pub const TEXT: usize = 34;
 /// The bytes of the shortest buffer that [`Frames`] takes: the longest body and its checksum.
 pub const FRAME_BUFFER: usize = 534;

@@ -2,7 +2,8 @@
 
 use core::fmt;
 
-/// Why a step was refused; the numbers are those of document 01's table, whose 0 is `Ok` here.
+/// Why a step was refused; the numbers are those of document 01's table, which document 02 continues
+/// and whose 0 is `Ok` here.
 #[derive(Debug, Clone, Copy, PartialEq, Eq, Hash)]
 pub enum Refusal {
     /// A setup rule is broken.
@@ -19,6 +20,10 @@ pub enum Refusal {
     NoSite = 6,
     /// The writer was given no message, or the reader bytes of none.
     NoMessage = 7,
+    /// The bytes of a text request are no packet's text.
+    NoPacket = 10,
+    /// The buffer for the reply to a text request is shorter than [`TEXT`](crate::TEXT).
+    TextBuffer = 11,
 }
 
 impl Refusal {
@@ -27,7 +32,7 @@ impl Refusal {
         self as u8
     }
 
-    /// What a number of the archive says. It is proved to be one of 0 to 7.
+    /// What a number of the archive says. It is proved to be one of these.
     pub(crate) fn check(number: u8) -> Result<(), Self> {
         Err(match number {
             0 => return Ok(()),
@@ -38,6 +43,8 @@ impl Refusal {
             5 => Self::Stopped,
             6 => Self::NoSite,
             7 => Self::NoMessage,
+            10 => Self::NoPacket,
+            11 => Self::TextBuffer,
             other => unreachable!("the archive answered number {other}"),
         })
     }
@@ -53,6 +60,8 @@ impl fmt::Display for Refusal {
             Self::Stopped => "the process is Stopped, or the state event would stop it",
             Self::NoSite => "the pc is at no breakpoint",
             Self::NoMessage => "no message",
+            Self::NoPacket => "no text packet",
+            Self::TextBuffer => "the buffer is shorter than the longest text",
         })
     }
 }
@@ -66,7 +75,7 @@ mod tests {
     #[test]
     fn numbers_are_those_of_the_table() {
         assert_eq!(Refusal::check(0), Ok(()));
-        for number in 1..=7 {
+        for number in (1..=7).chain([10, 11]) {
             assert_eq!(Refusal::check(number).map_err(Refusal::number), Err(number));
         }
     }

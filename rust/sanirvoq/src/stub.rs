@@ -2,7 +2,7 @@
 
 use crate::call::{Kind, Lent};
 use crate::ffi::{Process, Record, Target};
-use crate::Refusal;
+use crate::{write_text, Refusal, TextReply, TextRequest, TextServed, TEXT};
 
 /// What the kernel is to do with a process that ran into a trap.
 #[derive(Debug, Clone, Copy, PartialEq, Eq)]
@@ -132,6 +132,64 @@ impl Stub {
     ) -> Result<(), Refusal> {
         let lent = Lent { reply, ..self.lent(memory, registers) };
         answer(lent.call(Kind::Restart)).map(drop)
+    }
+
+    /// Serves the bytes of a text request with a text at the front of the reply buffer, of which the
+    /// rest stays; the text may say an error. Refused, in this order, with [`Refusal::Size`] (of memory
+    /// or registers), `Unfit`, `TextBuffer` or `NoPacket`.
+    ///
+    /// ```
+    /// # fn main() -> Result<(), sanirvoq::Refusal> {
+    /// use sanirvoq::{Stub, BLOCK, TEXT};
+    ///
+    /// let (mut memory, mut registers) = ([4, 5, 6, 7], [0; BLOCK]);
+    /// let mut stub = Stub::setup(0x1004, 4, &[(5, 0)], &mut memory, &mut registers)?;
+    /// let mut buffer = [0; TEXT];
+    /// let served = stub.text(&mut memory, &mut registers, b"0x0 i 0x1004 0x0", &mut buffer)?;
+    /// assert_eq!(served.text(), b"0x0 i 0x0 0x7060504");
+    /// assert_eq!(served.reply(), Ok(0x0706_0504));
+    /// # Ok(())
+    /// # }
+    /// ```
+    pub fn text<'a>(
+        &mut self,
+        memory: &mut [u8],
+        registers: &mut [u8],
+        request: &[u8],
+        reply: &'a mut [u8],
+    ) -> Result<TextServed<'a>, Refusal> {
+        let lent = Lent { input: request, reply: &mut *reply, ..self.lent(memory, registers) };
+        let [error, filled, _] = answer(lent.call(Kind::Text))?;
+        Ok(TextServed::new(&reply[..usize::from(filled)], error))
+    }
+
+    /// Serves a text request that is given as a value: writes its text, serves that and reads the reply.
+    /// Refused with [`Refusal::Size`] or [`Refusal::Unfit`].
+    ///
+    /// ```
+    /// # fn main() -> Result<(), sanirvoq::Refusal> {
+    /// use sanirvoq::{Errno, Space, Stub, TextRequest, BLOCK};
+    ///
+    /// let (mut memory, mut registers) = ([4, 5, 6, 7], [0; BLOCK]);
+    /// let mut stub = Stub::setup(0x1004, 4, &[(5, 0)], &mut memory, &mut registers)?;
+    /// let write = TextRequest::WriteWord { space: Space::Data, address: 0x1004, data: 1 };
+    /// assert_eq!(stub.text_request(&mut memory, &mut registers, write)?, Ok(0x0706_0504));
+    /// assert_eq!(memory, [1, 0, 0, 0]);
+    /// let pc = TextRequest::ReadRegister { number: 33 };
+    /// assert_eq!(stub.text_request(&mut memory, &mut registers, pc)?, Err(Errno::Esrch));
+    /// # Ok(())
+    /// # }
+    /// ```
+    pub fn text_request(
+        &mut self,
+        memory: &mut [u8],
+        registers: &mut [u8],
+        request: TextRequest,
+    ) -> Result<TextReply, Refusal> {
+        let (mut text, mut reply) = ([0; TEXT], [0; TEXT]);
+        let request = write_text(request.into(), &mut text);
+        let request = request.expect("the buffer is long enough and the letter in its range");
+        self.text(memory, registers, request, &mut reply).map(|served| served.reply())
     }
 
     /// A stub of any record: one that is not fit is refused by every step.

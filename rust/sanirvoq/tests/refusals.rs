@@ -4,7 +4,7 @@ mod common;
 
 use common::*;
 use sanirvoq::ffi::{Entry, Record, Target};
-use sanirvoq::{Refusal, Served, Stub};
+use sanirvoq::{Refusal, Served, Stub, TEXT};
 
 /// A session with breakpoints 3 and 4, a condition in hand, a current and a Stopped process.
 fn used() -> Session {
@@ -21,8 +21,8 @@ fn used() -> Session {
 type Step = fn(&mut Session, &mut [u8]) -> Result<(), Refusal>;
 
 /// What every step after setup answers. A refused one must change nothing; each has its own copy.
-fn every_step(session: &Session) -> [Result<(), Refusal>; 5] {
-    let steps: [Step; 5] = [
+fn every_step(session: &Session) -> [Result<(), Refusal>; 6] {
+    let steps: [Step; 6] = [
         |s, reply| {
             let done = s.stub.request(&mut s.memory, &mut s.registers, &mget(0x1004, 4), reply);
             done.map(|served| assert_eq!(served, Served::Reply))
@@ -31,6 +31,13 @@ fn every_step(session: &Session) -> [Result<(), Refusal>; 5] {
         |s, _| s.schedule(5, 4_104).map(drop),
         |s, _| s.state(5, 3),
         |s, reply| s.stub.restart(&mut s.memory, &mut s.registers, reply),
+        |s, _| {
+            let (Session { stub, memory, registers }, mut reply) = (s, [0xee; TEXT]);
+            let done = stub.text(memory, registers, b"0x0 I 0x1004 0x0", &mut reply);
+            let done = done.map(|served| assert!(served.is_carried_out()));
+            assert_eq!(done.is_err(), reply == [0xee; TEXT]);
+            done
+        },
     ];
     steps.map(|step| {
         let (mut now, mut reply) = (session.clone(), [0xee; 10]);
@@ -53,7 +60,7 @@ fn changed(change: impl FnOnce(&mut Record)) -> Session {
 
 #[test]
 fn a_used_session_is_fit() {
-    assert_eq!(every_step(&used()), [Ok(()); 5]);
+    assert_eq!(every_step(&used()), [Ok(()); 6]);
 }
 
 #[test]
@@ -62,7 +69,7 @@ fn lent_buffers_have_one_size() {
         let mut s = changed(|record| record.target.current = 6);
         s.memory.resize(memory, 0);
         s.registers.resize(registers, 0);
-        assert_eq!(every_step(&s), [Err(Refusal::Size); 5], "{memory} {registers}");
+        assert_eq!(every_step(&s), [Err(Refusal::Size); 6], "{memory} {registers}");
     }
 }
 
@@ -137,7 +144,7 @@ const SPOILING: [fn(&mut Record); 36] = [
 #[test]
 fn a_spoiled_record_is_refused_by_every_step() {
     for (i, change) in SPOILING.iter().enumerate() {
-        assert_eq!(every_step(&changed(change)), [Err(Refusal::Unfit); 5], "change {i}");
+        assert_eq!(every_step(&changed(change)), [Err(Refusal::Unfit); 6], "change {i}");
     }
 }
 
@@ -157,7 +164,7 @@ const HARMLESS: [fn(&mut Record); 9] = [
 #[test]
 fn what_no_rule_speaks_of_spoils_nothing() {
     for (i, change) in HARMLESS.iter().enumerate() {
-        assert_eq!(every_step(&changed(change)), [Ok(()); 5], "change {i}");
+        assert_eq!(every_step(&changed(change)), [Ok(()); 6], "change {i}");
     }
 }
 
@@ -165,9 +172,9 @@ fn what_no_rule_speaks_of_spoils_nothing() {
 fn an_outside_change_of_a_trap_is_refused_until_it_is_put_back() {
     let mut s = used();
     s.memory[8] = 8;
-    assert_eq!(every_step(&s), [Err(Refusal::Unfit); 5]);
+    assert_eq!(every_step(&s), [Err(Refusal::Unfit); 6]);
     s.memory[8] = 0x02;
-    assert_eq!(every_step(&s), [Ok(()); 5]);
+    assert_eq!(every_step(&s), [Ok(()); 6]);
 }
 
 #[test]
@@ -179,11 +186,11 @@ fn any_bytes_are_a_record() {
         record.target.table.draft.count = 0xff;
         record.places.fill(u32::MAX);
     });
-    assert_eq!(every_step(&s), [Err(Refusal::Unfit); 5]);
+    assert_eq!(every_step(&s), [Err(Refusal::Unfit); 6]);
     let mut s = changed(|record| record.target.count = u32::MAX);
-    assert_eq!(every_step(&s), [Err(Refusal::Size); 5]);
+    assert_eq!(every_step(&s), [Err(Refusal::Size); 6]);
     s = Session { stub: Stub::default(), memory: vec![], registers: vec![] };
-    assert_eq!(every_step(&s), [Err(Refusal::Unfit); 5]);
+    assert_eq!(every_step(&s), [Err(Refusal::Unfit); 6]);
 }
 
 /// A setup over a record that was in use, with buffers of these sizes, and what it leaves of the

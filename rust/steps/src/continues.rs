@@ -15,6 +15,8 @@ enum Cause {
     Schedule,
     /// Tmput wrote it since.
     Written,
+    /// A text step, `R`, wrote it since.
+    WrittenByText,
     /// Another register area was lent since.
     Replaced,
     /// The process is not Stopped: its pc is that of an earlier stop.
@@ -35,7 +37,7 @@ pub struct Continues {
     /// Sites where a Stop was continued; a new breakpoint takes its site out.
     continued: Vec<u32>,
     /// By cause: at a site, beside one, elsewhere.
-    counts: [[u64; 3]; 5],
+    counts: [[u64; 3]; 6],
     /// Stops at a breakpoint whose earlier Stop was continued.
     pub second_stops: u64,
 }
@@ -77,9 +79,20 @@ impl Continues {
     fn write(&mut self, request: &[u8], stub: &Stub, registers: &[u8]) {
         let (address, n) = (word(&request[1..]) as usize, usize::from(request[5]));
         let written = n > 0 && address < BLOCK && address + n > PC;
-        let Some(pid) = stub.current.filter(|_| written) else { return };
+        if written {
+            self.pc_written(stub, registers, Cause::Written);
+        }
+    }
+
+    /// Takes a text step that wrote the saved pc of the current process.
+    pub fn take_text(&mut self, stub: &Stub, registers: &[u8]) {
+        self.pc_written(stub, registers, Cause::WrittenByText);
+    }
+
+    fn pc_written(&mut self, stub: &Stub, registers: &[u8], cause: Cause) {
+        let Some(pid) = stub.current else { return };
         if let Some(one) = self.stopped.iter_mut().find(|one| one.pid == pid) {
-            (one.pc, one.cause) = (saved_pc(stub, registers, pid), Cause::Written);
+            (one.pc, one.cause) = (saved_pc(stub, registers, pid), cause);
         }
     }
 
@@ -102,6 +115,11 @@ impl Continues {
     /// Those that found another register area than the stop, by place; the program has none.
     pub fn replaced(&self) -> [u64; 3] {
         self.counts[Cause::Replaced as usize]
+    }
+
+    /// Those that found a pc written by a text step, by place; the program has none.
+    pub fn written_by_text(&self) -> [u64; 3] {
+        self.counts[Cause::WrittenByText as usize]
     }
 
     pub fn section(&self) -> Section {

@@ -8,6 +8,7 @@
 //! - [`tally`]: counts what was reached, [`continues`] what a Tstart found, [`places`] how the limits
 //!   of conditions were met; [`table`] prints it and says what is lacking
 //! - [`program`]: random steps over the worked setup
+//! - [`texts`]: packets of the text dialect, which the program has not
 
 #![forbid(unsafe_code)]
 
@@ -23,6 +24,7 @@ pub mod rng;
 pub mod step;
 pub mod table;
 pub mod tally;
+pub mod texts;
 
 pub use burst::{Burst, Generator};
 pub use rng::Rng;

@@ -1,9 +1,10 @@
 //! The book of demand 3, kept beside the independent stub over random steps.
 
 use reference::{
-    body_length, fit, Book, Claim, Element, Places, Session, Stub, Verdict, BLOCK, MESSAGE,
+    body_length, fit, write_text, Book, Claim, Element, Errno, Places, Session, Stub, TextPacket,
+    Verdict, BLOCK, LONGEST_TEXT, MESSAGE,
 };
-use steps::program;
+use steps::{program, Generator};
 
 /// Feeds a step that got number 0; `registers` are those lent to it.
 fn feed(book: &mut Book, kind: u8, body: &[u8], answer: &[u8], registers: &[u8]) -> Claim {
@@ -86,6 +87,54 @@ fn replay(steps: &[u8]) {
         assert_eq!(book.lies_under(&s.memory), Ok(()));
         check_record(&s.stub, &book);
     }
+}
+
+/// A text step, with what the book says of it. One with ERRFLG -1 changes nothing. Gives what it
+/// answered.
+fn text_step(s: &mut Session, book: &mut Book, packet: TextPacket) -> Result<u32, Errno> {
+    let (mut request, mut reply) = ([0; LONGEST_TEXT], [0xee; LONGEST_TEXT + 3]);
+    let length = write_text(packet, &mut request).unwrap();
+    let before = s.clone();
+    let Session { stub, memory, registers } = &mut *s;
+    let served = stub.text(memory, registers, &request[..length], &mut reply).unwrap();
+    assert_eq!(book.text(&request[..length], &reply[..served.filled]), Ok(()));
+    assert!(reply[served.filled..].iter().all(|&byte| byte == 0xee));
+    if served.done.is_err() {
+        assert_eq!(*s, before);
+    }
+    assert_eq!(s.stub.draft, before.stub.draft);
+    served.done
+}
+
+/// Text steps between the steps of the program: every errno comes, and every letter is carried out.
+#[test]
+fn the_book_agrees_on_text_steps_too() {
+    let (mut s, mut generator) = (Session::worked(), Generator::new(5));
+    let mut book = Book::new(s.stub.base, &[5, 7], &s.memory);
+    let (mut done, mut errors) = ([0; 256], [0; 23]);
+    for _ in 0..10_000 {
+        let mut burst = generator.burst(&s.stub, &s.memory);
+        burst.act();
+        let steps = std::mem::take(&mut burst.steps);
+        for step in steps {
+            let (registers, output) = (s.registers.clone(), s.step(step.kind(), &step.body()));
+            if let [0, answer @ ..] = &output[..] {
+                let fed = feed(&mut book, step.kind(), &step.body(), answer, &registers);
+                assert_eq!(fed, Ok(()));
+            }
+            let packet = generator.burst(&s.stub, &s.memory).packet();
+            match text_step(&mut s, &mut book, packet) {
+                Ok(_) => done[usize::from(packet.letter)] += 1,
+                Err(errno) => errors[errno.number() as usize] += 1,
+            }
+            assert!(fit(&s.stub, &s.memory));
+            assert_eq!(book.lies_under(&s.memory), Ok(()));
+            check_record(&s.stub, &book);
+        }
+    }
+    assert!(b"idIDrR".iter().all(|&letter| done[usize::from(letter)] > 100), "{done:?}");
+    assert_eq!(done.iter().filter(|&&count| count > 0).count(), 6);
+    assert!(Errno::ALL.iter().all(|errno| errors[errno.number() as usize] > 100), "{errors:?}");
 }
 
 #[test]

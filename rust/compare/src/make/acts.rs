@@ -11,7 +11,7 @@ impl Writer<'_> {
         if self.burst.rng.chance(6) {
             self.other_registers();
         }
-        match self.burst.rng.weighted(&[260, 12, 5, 4, 8, 1]) {
+        match self.burst.rng.weighted(&[260, 12, 5, 4, 8, 1, 14]) {
             0 => self.steps(Burst::act),
             1 => self.outside(),
             2 => self.interrupted(),
@@ -20,7 +20,8 @@ impl Writer<'_> {
                 self.steps(Burst::release);
             }
             4 => self.wrong_size(),
-            _ => self.setup_again(),
+            5 => self.setup_again(),
+            _ => self.texts(),
         }
     }
 

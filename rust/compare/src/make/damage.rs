@@ -217,7 +217,7 @@ impl Writer<'_> {
 
     /// A step of any kind that would do something.
     fn try_out(&mut self) {
-        match self.burst.rng.below(11) {
+        match self.burst.rng.below(13) {
             0 => self.steps(Burst::memory),
             1 => self.steps(Burst::condition),
             2 => self.steps(Burst::pid_request),
@@ -227,6 +227,7 @@ impl Writer<'_> {
             7 => self.steps(Burst::release),
             8 => self.steps(|burst| burst.steps.push(Step::Restart)),
             9 => self.wrong_size(),
+            10 | 11 => self.text(),
             _ => self.steps(Burst::noise),
         }
     }

@@ -6,6 +6,7 @@ mod pool;
 pub mod setup;
 mod sizes;
 pub mod sorts;
+mod texts;
 
 use crate::op::{Call, Kind, Op};
 use crate::record::Record;
@@ -85,7 +86,8 @@ fn call(rng: &mut Rng, step: Step) -> Call {
         Step::Restart => (Kind::Restart, any_pid, any_value, any_input),
     };
     let reply = kind.reply().unwrap_or(spare);
-    Call { kind, pid, value, input, reply, fill: noise[2], memory: None, registers: None }
+    let (memory, registers, damage) = (None, None, None);
+    Call { kind, pid, value, input, reply, fill: noise[2], memory, registers, damage }
 }
 
 /// A setup; what it does not use is anything.
@@ -94,10 +96,13 @@ fn setup_call(rng: &mut Rng) -> Call {
 }
 
 impl<'a> Writer<'a> {
-    /// Steps of the session.
+    /// Steps of the session, now and then with a text step before one of them.
     fn steps(&mut self, make: impl FnOnce(&mut Burst<'a>)) {
         make(&mut self.burst);
-        for step in self.burst.steps.drain(..) {
+        for step in std::mem::take(&mut self.burst.steps) {
+            if self.burst.rng.chance(6) {
+                self.text();
+            }
             self.ops.push(Op::Step(call(self.burst.rng, step)));
         }
     }

@@ -1,11 +1,13 @@
 //! Setups, accepted and refused.
 
+use super::texts::text_call;
 use super::{call, setup_call, sizes};
 use crate::op::{Op, Origin};
 use crate::record::Record;
-use reference::BLOCK;
+use reference::{TextPacket, BLOCK};
 use sanirvoq::ffi::Target;
 use steps::step::ten;
+use steps::texts::SERVED;
 use steps::{Rng, Step};
 
 /// A rule of setup and a way to break it alone.
@@ -172,6 +174,10 @@ pub fn on_empty(rng: &mut Rng, ops: &mut Vec<Op>) {
 /// A step of right size that was aimed at nothing.
 fn blind(rng: &mut Rng) -> Op {
     let (pid, number, n) = (rng.below(12), 4_096 + rng.below(64), rng.below(5) as u8);
+    if rng.chance(15) {
+        let (letter, third, fourth) = (rng.pick(&SERVED), number & !3, pid);
+        return Op::Step(text_call(rng, TextPacket { pid: 0, letter, third, fourth }));
+    }
     let request = ten(2 * rng.below(12) as u8, number, &[n]);
     let step = Step::any(rng, request, pid, number);
     Op::Step(call(rng, step))

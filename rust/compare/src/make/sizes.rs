@@ -1,5 +1,6 @@
 //! Buffers of wrong size.
 
+use super::texts::text_call;
 use super::{call, Writer};
 use crate::op::{Call, Op};
 use reference::MESSAGE;
@@ -9,10 +10,15 @@ use steps::{Rng, Step};
 impl Writer<'_> {
     /// A step that would do something, but for one buffer or more of wrong size.
     pub fn wrong_size(&mut self) {
-        let (pid, site) = (self.burst.pid(10), self.burst.standing_site());
-        let request = self.changing_request(pid, site);
-        let step = Step::any(self.burst.rng, request, pid, site);
-        let mut call = call(self.burst.rng, step);
+        let mut call = if self.burst.rng.chance(35) {
+            let packet = self.burst.packet();
+            text_call(self.burst.rng, packet)
+        } else {
+            let (pid, site) = (self.burst.pid(10), self.burst.standing_site());
+            let request = self.changing_request(pid, site);
+            let step = Step::any(self.burst.rng, request, pid, site);
+            call(self.burst.rng, step)
+        };
         spoil(self.burst.rng, &mut call, self.scene.memory.len(), self.scene.registers.len());
         self.ops.push(Op::Step(call));
     }

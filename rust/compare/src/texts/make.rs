@@ -61,11 +61,13 @@ pub enum Room {
     Short,
     OneShort,
     Exact,
+    OneMore,
     More,
 }
 
 impl Room {
-    pub const ALL: [Self; 5] = [Self::Empty, Self::Short, Self::OneShort, Self::Exact, Self::More];
+    pub const ALL: [Self; 6] =
+        [Self::Empty, Self::Short, Self::OneShort, Self::Exact, Self::OneMore, Self::More];
 
     pub fn name(self) -> &'static str {
         match self {
@@ -73,6 +75,7 @@ impl Room {
             Self::Short => "1 to 32 bytes",
             Self::OneShort => "33 bytes",
             Self::Exact => "34 bytes",
+            Self::OneMore => "35 bytes",
             Self::More => "more",
         }
     }
@@ -81,13 +84,26 @@ impl Room {
         matches!(self, Self::Empty | Self::Short | Self::OneShort)
     }
 
-    fn make(self, rng: &mut Rng) -> usize {
+    pub fn make(self, rng: &mut Rng) -> usize {
         match self {
             Self::Empty => 0,
             Self::Short => 1 + rng.index(LONGEST_TEXT - 2),
             Self::OneShort => LONGEST_TEXT - 1,
             Self::Exact => LONGEST_TEXT,
-            Self::More => LONGEST_TEXT + 1 + rng.index(60),
+            Self::OneMore => LONGEST_TEXT + 1,
+            Self::More => LONGEST_TEXT + 2 + rng.index(60),
+        }
+    }
+
+    /// That of a buffer of this length.
+    pub fn of(length: usize) -> Self {
+        match length {
+            0 => Self::Empty,
+            33 => Self::OneShort,
+            34 => Self::Exact,
+            35 => Self::OneMore,
+            _ if length < LONGEST_TEXT => Self::Short,
+            _ => Self::More,
         }
     }
 }
@@ -200,7 +216,8 @@ fn fields(packet: TextPacket) -> [Vec<u8>; 4] {
     [hex(packet.pid), vec![packet.letter], hex(packet.third), hex(packet.fourth)]
 }
 
-fn damaged(rng: &mut Rng, damage: Damage, packet: TextPacket) -> Vec<u8> {
+/// The text of a packet with this damage.
+pub fn damaged(rng: &mut Rng, damage: Damage, packet: TextPacket) -> Vec<u8> {
     let mut fields = fields(packet);
     let field = rng.pick(&[0, 2, 3]);
     let digits = fields[field].len() - 2;
@@ -262,7 +279,7 @@ impl Case {
     pub fn new(rng: &mut Rng) -> Self {
         if rng.chance(40) {
             let letter = Letter::ALL[rng.weighted(&[60, 10, 10, 10, 10])];
-            let room = Room::ALL[rng.weighted(&[5, 10, 15, 40, 30])];
+            let room = Room::ALL[rng.weighted(&[5, 10, 15, 40, 10, 20])];
             let length = room.make(rng);
             let buffer = rng.bytes(length);
             return Self::Write { letter, room, packet: packet(rng, letter), buffer };

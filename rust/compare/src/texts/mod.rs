@@ -5,7 +5,7 @@
 //! damage, say which numbers there can be, and a text as it was made is read as its packet. That is a
 //! third opinion, beside the two sides.
 
-mod make;
+pub mod make;
 mod tally;
 
 use crate::op::Hex;
