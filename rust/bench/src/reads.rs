@@ -15,7 +15,10 @@ pub const STRAIGHT: &str = "straight";
 const FREE: u32 = 1;
 
 type Sites = [u32; ENTRIES];
-type Plain = [u8; 2 * ENTRIES];
+/// Each slot has room for four plain bytes, of which the first two are its.
+const ROOM: usize = 4;
+
+type Plain = [u8; ROOM * ENTRIES];
 
 /// A part of the window, the slots, the part's offset, and where the bytes go.
 type Read = unsafe extern "C" fn(*const u8, usize, *const Sites, *const Plain, u32, *mut u8, usize);
@@ -82,11 +85,11 @@ impl Scene {
         for request in standing(ENTRIES as u32, WINDOW, sites_of) {
             stub.request(&mut memory, &mut registers, &request, &mut reply).expect("a request");
         }
-        let (mut sites, mut plain) = ([FREE; ENTRIES], [0; 2 * ENTRIES]);
+        let (mut sites, mut plain) = ([FREE; ENTRIES], [0; ROOM * ENTRIES]);
         for (k, entry) in stub.entries.iter().enumerate() {
             assert!(entry.used, "eight breakpoints");
             sites[k] = entry.site - BASE;
-            plain[2 * k..2 * k + 2].copy_from_slice(&entry.plain);
+            plain[ROOM * k..ROOM * k + 2].copy_from_slice(&entry.plain);
         }
         Self { name, stub, memory, sites, plain, address }
     }
@@ -178,7 +181,7 @@ mod tests {
             let offset = at + j as u32;
             let over = |site: &u32| *site == offset - offset % 2;
             let Some(byte) = part.get(j) else { return 0 };
-            sites.iter().position(over).map_or(*byte, |k| plain[2 * k + (offset % 2) as usize])
+            sites.iter().position(over).map_or(*byte, |k| plain[ROOM * k + (offset % 2) as usize])
         })
     }
 
