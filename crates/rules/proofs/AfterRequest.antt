@@ -40,9 +40,9 @@ use Rattle.condition.specs.Add.{withElement}
 use Rattle.target.specs.Fresh.{closedDraft}
 use Rattle.target.specs.declared.Element.{Element}
 use Rattle.rules.specs.Condition.{dropped, inHand, begun}
-use Rattle.rules.proofs.Outcomes.{RequestCase, RequestOutcome, serving, failing, got, put, aside, current}
-use Rattle.rules.proofs.Outcomes.{told, noted, halted, marked, started}
-use Rattle.rules.proofs.Outcomes.{cleared, begins, plants, removes, adds}
+use Rattle.rules.proofs.Requests.{RequestCase, RequestOutcome, serving, failing, got, put, aside, current}
+use Rattle.rules.proofs.Requests.{told, noted, halted, marked, started}
+use Rattle.rules.proofs.Requests.{cleared, begins, plants, removes, adds}
 
 -- an element that fits joins both
 joins-both : (d : Draft) (o : Option Pending) (e : Element) → Drafted d o → Drafted (withElement d e) (joins o e)

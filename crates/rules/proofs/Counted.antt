@@ -41,9 +41,11 @@ use Rattle.rules.specs.Step.{textStep}
 use Rattle.rules.specs.Text.{Response, textReplied}
 use Rattle.text_packet.specs.declared.Packet.{Packet}
 use Rattle.rules.proofs.Texts.{TextCase, refusing, word-read, word-written, register-read, register-written}
-use Rattle.rules.proofs.Outcomes.{RequestCase, RequestOutcome, serving, failing, EventCase, got, put, aside}
-use Rattle.rules.proofs.Outcomes.{current, told, noted, halted, marked, started, cleared, begins, plants}
-use Rattle.rules.proofs.Outcomes.{removes, adds, caught, released, yielded, ran, became, by-step}
+use Rattle.rules.proofs.Requests.{RequestCase, RequestOutcome, serving, failing, got, put, aside}
+use Rattle.rules.proofs.Outcomes.{EventCase}
+use Rattle.rules.proofs.Requests.{current, told, noted, halted, marked, started, cleared, begins, plants}
+use Rattle.rules.proofs.Requests.{removes, adds}
+use Rattle.rules.proofs.Outcomes.{caught, released, yielded, ran, became, by-step}
 use Rattle.rules.proofs.Places.{held-set, held-with, places-used, places-free, hand-held, closed-held}
 use Rattle.rules.proofs.Rows.{stored-at, with-same, fresh-free}
 use Rattle.common.proofs.Same.{true-or-false}

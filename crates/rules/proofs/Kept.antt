@@ -24,9 +24,11 @@ use Rattle.rules.specs.Step.{setupTarget, sized, Step, stepOf}
 use Rattle.rules.specs.Text.{Response, textReplied}
 use Rattle.text_packet.specs.declared.Packet.{Packet}
 use Rattle.rules.proofs.Texts.{TextCase, refusing, word-read, word-written, register-read, register-written}
-use Rattle.rules.proofs.Outcomes.{processNamed, RequestCase, RequestOutcome, serving, failing, EventCase}
-use Rattle.rules.proofs.Outcomes.{SetUp, taken, emptied, got, put, aside, current}
-use Rattle.rules.proofs.Outcomes.{told, noted, halted, marked, started, cleared, begins, plants, removes, adds}
+use Rattle.rules.proofs.Requests.{processNamed, RequestCase, RequestOutcome, serving, failing}
+use Rattle.rules.proofs.Outcomes.{EventCase}
+use Rattle.rules.proofs.Requests.{got, put, aside, current}
+use Rattle.rules.proofs.Outcomes.{SetUp, taken, emptied}
+use Rattle.rules.proofs.Requests.{told, noted, halted, marked, started, cleared, begins, plants, removes, adds}
 use Rattle.rules.proofs.Outcomes.{caught, released}
 use Rattle.rules.specs.Step.{regsOf}
 use Rattle.rules.proofs.Outcomes.{yielded, ran, became, set-up, by-step}

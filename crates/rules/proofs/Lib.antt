@@ -1,6 +1,7 @@
 pub mod Computes
 pub mod Worked
 pub mod Texts
+pub mod Requests
 pub mod Outcomes
 pub mod Replies
 pub mod Refusals

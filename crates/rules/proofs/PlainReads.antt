@@ -66,9 +66,10 @@ use Rattle.rules.specs.declared.Answer.{Answer}
 use Rattle.rules.specs.declared.Answer.the-variants.{Nothing}
 use Rattle.wire.specs.declared.Data9.{Data9}
 use Rattle.rules.specs.Step.{regsOf, bufferOf}
-use Rattle.rules.proofs.Outcomes.{RequestCase, RequestOutcome, serving, failing, EventCase, hit, by-step, got}
-use Rattle.rules.proofs.Outcomes.{put, aside, current}
-use Rattle.rules.proofs.Outcomes.{told, noted, halted, marked, started, cleared, begins, plants, removes, adds}
+use Rattle.rules.proofs.Requests.{RequestCase, RequestOutcome, serving, failing, got}
+use Rattle.rules.proofs.Outcomes.{EventCase, hit, by-step}
+use Rattle.rules.proofs.Requests.{put, aside, current}
+use Rattle.rules.proofs.Requests.{told, noted, halted, marked, started, cleared, begins, plants, removes, adds}
 use Rattle.rules.proofs.Outcomes.{caught, released}
 use Rattle.rules.proofs.Outcomes.{yielded, ran, became}
 

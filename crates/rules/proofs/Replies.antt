@@ -29,9 +29,11 @@ use Rattle.rules.specs.Request.{drops, requestBy}
 use Rattle.rules.specs.Event.{restart}
 use Rattle.rules.specs.Step.{sized, checked, requestOf, trapOf, scheduleOf, stateOf, restartOf}
 use Rattle.rules.specs.Step.{Step, request, trapEvent, scheduleEvent, stateEvent, restartStep, stepOf}
-use Rattle.rules.proofs.Outcomes.{RequestOutcome, serving, failing, EventOutcome, event-outcome, StepOutcome}
+use Rattle.rules.proofs.Requests.{RequestOutcome, serving, failing}
+use Rattle.rules.proofs.Outcomes.{EventOutcome, event-outcome, StepOutcome}
 use Rattle.rules.proofs.Outcomes.{numbered, past-checks}
-use Rattle.rules.proofs.Outcomes.{request-of, outcome-request, outcome-restart, outcome-trap, outcome-schedule}
+use Rattle.rules.proofs.Requests.{request-of}
+use Rattle.rules.proofs.Outcomes.{outcome-request, outcome-restart, outcome-trap, outcome-schedule}
 use Rattle.rules.proofs.Outcomes.{outcome-state, TextOutcome, text-outcome, outcome-text}
 use Rattle.rules.specs.Step.{textStepOf, textStep}
 use Rattle.rules.specs.Text.{textReplied}
