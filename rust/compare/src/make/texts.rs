@@ -8,7 +8,7 @@ use reference::TextPacket;
 use steps::{Rng, Step};
 
 /// How often each damage is done; most texts are whole.
-const DAMAGES: [u32; Damage::ALL.len()] = [200, 3, 3, 3, 3, 3, 3, 3, 3, 3, 3, 3, 3, 6, 3, 3];
+const DAMAGES: [u32; Damage::ALL.len()] = [210, 3, 3, 3, 3, 3, 3, 3, 3, 3, 3, 3, 3, 6, 3, 3, 3];
 /// How often a buffer is of each length; few are short.
 const ROOMS: [u32; Room::ALL.len()] = [4, 4, 8, 40, 20, 24];
 

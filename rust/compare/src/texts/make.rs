@@ -126,11 +126,12 @@ pub enum Damage {
     Cut,
     ByteChanged,
     Noise,
+    TooLong,
     Nothing,
 }
 
 impl Damage {
-    pub const ALL: [Self; 16] = [
+    pub const ALL: [Self; 17] = [
         Self::None,
         Self::LeadingZero,
         Self::UpperCase,
@@ -146,6 +147,7 @@ impl Damage {
         Self::Cut,
         Self::ByteChanged,
         Self::Noise,
+        Self::TooLong,
         Self::Nothing,
     ];
 
@@ -166,6 +168,7 @@ impl Damage {
             Self::Cut => "cut short",
             Self::ByteChanged => "a byte changed",
             Self::Noise => "random bytes",
+            Self::TooLong => "longer than any text",
             Self::Nothing => "nothing at all",
         }
     }
@@ -219,6 +222,14 @@ fn fields(packet: TextPacket) -> [Vec<u8>; 4] {
 /// The text of a packet with this damage.
 pub fn damaged(rng: &mut Rng, damage: Damage, packet: TextPacket) -> Vec<u8> {
     let mut fields = fields(packet);
+    damage_field(rng, damage, &mut fields);
+    let mut text = fields.join(&b' ');
+    damage_text(rng, damage, &mut text);
+    text
+}
+
+/// Damage of one field.
+fn damage_field(rng: &mut Rng, damage: Damage, fields: &mut [Vec<u8>; 4]) {
     let field = rng.pick(&[0, 2, 3]);
     let digits = fields[field].len() - 2;
     match damage {
@@ -246,7 +257,10 @@ pub fn damaged(rng: &mut Rng, damage: Damage, packet: TextPacket) -> Vec<u8> {
         Damage::TwoLetters => fields[1].push(0x21 + rng.below(0x5e) as u8),
         _ => {}
     }
-    let mut text = fields.join(&b' ');
+}
+
+/// Damage of the whole text.
+fn damage_text(rng: &mut Rng, damage: Damage, text: &mut Vec<u8>) {
     let blanks: Vec<usize> = (0..text.len()).filter(|&i| text[i] == b' ').collect();
     match damage {
         Damage::DoubleBlank => text.insert(rng.pick(&blanks), b' '),
@@ -264,15 +278,16 @@ pub fn damaged(rng: &mut Rng, damage: Damage, packet: TextPacket) -> Vec<u8> {
                 if rng.chance(50) { rng.pick(b"0123456789abcdefAF xXi") } else { rng.byte() };
         }
         Damage::Noise => {
-            text = {
-                let length = rng.index(80);
-                rng.bytes(length)
-            }
+            let length = rng.index(80);
+            *text = rng.bytes(length);
+        }
+        Damage::TooLong => {
+            let length = LONGEST_TEXT + 1 + rng.index(200);
+            text.resize(length, rng.pick(b"0f "));
         }
         Damage::Nothing => text.clear(),
         _ => {}
     }
-    text
 }
 
 impl Case {
@@ -284,7 +299,8 @@ impl Case {
             let buffer = rng.bytes(length);
             return Self::Write { letter, room, packet: packet(rng, letter), buffer };
         }
-        let damage = Damage::ALL[rng.weighted(&[40, 6, 6, 6, 6, 4, 6, 4, 4, 6, 4, 4, 6, 12, 4, 1])];
+        let weights = [40, 6, 6, 6, 6, 4, 6, 4, 4, 6, 4, 4, 6, 12, 4, 4, 1];
+        let damage = Damage::ALL[rng.weighted(&weights)];
         let packet = packet(rng, Letter::Any);
         Self::Read { damage, packet, text: damaged(rng, damage, packet) }
     }
