@@ -29,8 +29,8 @@ fn a_quick_run_prints_every_table() {
         assert!(window == 64.0 || window == 65_536.0, "{row}");
         assert!(proved > 0.0 && rust > 0.0 && ratio > 0.0, "{row}");
     }
-    let aims = block(all, "full table: largest ratio");
-    assert!(aims.iter().any(|line| line.starts_with("empty table: largest ratio")), "{aims:#?}");
+    let aims = block(all, "full table: ratios");
+    assert!(aims.iter().any(|line| line.starts_with("empty table: ratios")), "{aims:#?}");
     let steps = &block(all, "step ")[1..];
     let names: Vec<_> = steps.iter().flat_map(|line| line.split_whitespace().next()).collect();
     assert_eq!(names, ["sanirvoq_step_setup", "sanirvoq_step_request"]);
