@@ -8,6 +8,7 @@ calls.
 """
 
 import random
+import sys
 
 from text_step_vectors import ACCEPTED, BAD_TEXTS, BASE, BEGIN, FILL, LEAST_BUFFER, LOOK, MINUS_ONE, NO_PACKET
 from text_step_vectors import EBUSY, EFAULT, EINVAL, ESRCH, SHORT_BUFFER, SIZE, TEXT, Script, step_bytes, word
@@ -126,6 +127,12 @@ def traps_beside(call):
     call.plant(4, 0x100C)
 
 
+def end_traps(call):
+    """A trap in the first word of the window and one in the last."""
+    call.plant(3, 0x1000)
+    call.plant(4, 0x103E)
+
+
 def in_hand(call):
     """A condition is in hand."""
     call.ask(16, 9, b"n", b"")
@@ -170,6 +177,14 @@ def register_errors():
                     yield one(text, reply(text, errno, previous), before)
 
 
+def low_addresses():
+    """A Stopped process that is current has registers at 0 to 135; for a word they lie outside the window."""
+    for letter in "idID":
+        for address, errno in ((0x0, EFAULT), (0x4, EFAULT), (0x84, EFAULT), (0x88, EFAULT), (0x2, EINVAL)):
+            text = f"0x0 {letter} {address:#x} 0x5"
+            yield one(text, reply(text, errno, None), stopped)
+
+
 def letters():
     """Every letter, over a Stopped process that is current: an unlisted one is 22, also with a wrong PID."""
     for letter in map(chr, range(0x21, 0x7F)):
@@ -209,6 +224,13 @@ def looked_at(*data):
     return lambda call: call.ask(2, 0x1008, b"\x04", bytes(data))
 
 
+def is_memory(call, at, wanted):
+    """Stops unless the call's answer ends with memory that has these bytes from an offset on."""
+    found = call[1][-SIZE:][at:at + len(wanted)]
+    if found != wanted:
+        sys.exit(f"memory at {BASE + at:#x} is {found.hex(' ')}, not {wanted.hex(' ')}")
+
+
 def unset(*idents):
     def after(call):
         for ident in idents:
@@ -232,11 +254,25 @@ def traps():
                 afters.append((unset(3), first))
             for after, wanted in afters:
                 call = one(f"0x0 {letter} 0x1008 0x11223344", f"0x0 {letter} 0x0 0xb0a0908", before, after)
-                if call[1][-SIZE:][8:12] != wanted:
-                    raise SystemExit(f"memory at 0x1008 is {call[1][-SIZE:][8:12].hex(' ')}, not {wanted.hex(' ')}")
+                is_memory(call, 8, wanted)
                 yield call
         refused = "0x7 D 0x1008 0x11223344"
         yield one(refused, reply(refused, ESRCH, None), before, looked_at(*plain))
+
+
+def end_words():
+    """Both ends of the window, under traps: written, and then a restart or d."""
+    for address, previous, at, there in ((0x1000, 0x3020100, 0, "02904433"), (0x103C, 0x3F3E3D3C, 60, "66550290")):
+        for letter in "idID":
+            data = 0x33445566
+            text = f"0x0 {letter} {address:#x} {data:#x}"
+            is_read = letter in "id"
+            plain = (previous if is_read else data).to_bytes(4, "little")
+            real = bytes.fromhex("02900203" if at == 0 else "3c3d0290") if is_read else bytes.fromhex(there)
+            for after, wanted in ((None, real), (Call.restart, plain), (unset(3, 4), plain)):
+                call = one(text, reply(text, None, previous), end_traps, after)
+                is_memory(call, at, wanted)
+                yield call
 
 
 def kept():
@@ -282,7 +318,7 @@ def longest():
     yield one(bytes(HELD), NO_PACKET, many, many, HELD, (b"\x00", OTHER_KIND), (b"\x00", OTHER_KIND))
 
 
-DIRECTED = (word_errors, register_errors, letters, buffers, texts, traps, kept, ends, longest)
+DIRECTED = (word_errors, register_errors, low_addresses, letters, buffers, texts, traps, end_words, kept, ends, longest)
 
 
 # ---- Random calls, with the answers of Stub. ----

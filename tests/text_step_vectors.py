@@ -480,6 +480,11 @@ def script():
     return s.steps
 
 
+def cases():
+    """Every step and its answer as bytes, for another script to store."""
+    return [(step_bytes(step), answer_bytes(step, answer)) for step, answer in script()]
+
+
 # ---- Printed, or run. ----
 
 def shown(step, answer):

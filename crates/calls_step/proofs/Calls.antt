@@ -118,8 +118,9 @@ module _ (call : List ℕ) where
 
   pub writes-step : (l : Lengths) → l ≡ lengthsOf call → (n : ℕ) (before after : List ℕ)
       → Writes
-      (sessionBytes workedWorld (take (l .before) (drop (headBytes + l .text) call)) (take (l .text) (drop headBytes call))
-      (take (l .after) (drop (headBytes + l .text + l .before) call)) (replicate (l .room) bufferFill))
+      (sessionBytes workedWorld (take (l .before) (drop (headBytes + l .text) call))
+      (take (l .text) (drop headBytes call)) (take (l .after) (drop (headBytes + l .text + l .before) call))
+      (replicate (l .room) bufferFill))
       n before after
       → Writes (stepAnswer call) n before after
   unfolding stepAnswer

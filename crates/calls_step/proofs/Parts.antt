@@ -1,5 +1,5 @@
 -- What steps, a text step and steps after it write, one behind the other. Assumes nothing.
-use mathlib.Core.Path.{_≡_, refl, sym, ap, _∙_}
+use mathlib.Core.Path.{_≡_, ap, _∙_}
 use mathlib.Core.List.{List, _++_}
 use Prim.Native.Nat.{ℕ, _+_, _-_, _*_, _^_, _<_, _≤_}
 use native.Mathlib.Omega.{arith}
@@ -51,8 +51,9 @@ module _ (w : World) (steps before : List ℕ) (enough : stepMost * length steps
   unfolding endingBytes
   run-memory part m g room =
       let same : mem ≡ runOf w steps .after .mem = ap (λ (v : World). v .mem) (whole .world) in
-      rw (← same)
-      (writes-part before after _ (r .filled) (whole .writes) (omega (arith, run-few)) mem part m g room)
+      let h : Puts (runOf w steps .after .mem) m (behind after (r .filled)) part = rw same at g in
+      writes-part before after _ (r .filled) (whole .writes) (omega (arith, run-few)) _ part m h
+      (omega (arith, ap length same))
 
   -- a text step and the steps after it
   pub run-text : (text later reply part : List ℕ) (m : ℕ)

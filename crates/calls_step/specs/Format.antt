@@ -68,20 +68,20 @@ callSize call = cond (isStep call) (stepSize call) (otherSize call)
 
 -- ---- what it writes
 
--- "what the steps after it write, and then the window's memory"
+-- "what the steps after write; the window's 64 bytes"
 unfoldable pub endingBytes : World → List ℕ → List ℕ
 endingBytes w after =
     let r = runOf w after in
     r .output ++ r .after .mem
 
--- "what the text step shows: its number and, where that is 0, the whole buffer, whether ERRFLG is -1, and how many bytes
--- are filled", and what follows it
+-- "what the text step shows": its number and, where that is 0, the whole buffer, whether ERRFLG is -1, and how many
+-- bytes are filled; and what follows it
 unfoldable pub textBytes : World → List ℕ → List ℕ → List ℕ → List ℕ
 textBytes w text after reply =
     let o = textStepOf house w text reply in
     shown house o ++ endingBytes (o .after) after
 
--- "what the steps before it write", and what follows them
+-- "what the steps before write", and what follows them
 unfoldable pub sessionBytes : World → List ℕ → List ℕ → List ℕ → List ℕ → List ℕ
 sessionBytes w before text after reply =
     let q = runOf w before in

@@ -13,7 +13,8 @@ use Rattle.calls_step.proofs.lend.Statement.{statement}
 use Rattle.calls_step.proofs.lend.Tie as tie
 
 -- the buffer has what is lent
-inside : (c : tie.After-full) → c .before .before .before .before .before .before .args .l .room ≤ length (c .full .result)
+inside : (c : tie.After-full) → let s = c .before .before .before .before .before .before in
+    s .args .l .room ≤ length (c .full .result)
 inside c =
     let s = c .before .before .before .before .before .before in
     omega (arith, ap length (c .full .ensures), length-replicate stepHeld bufferFill, held-facts _ (s .pre .1))

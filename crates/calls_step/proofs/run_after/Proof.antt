@@ -10,8 +10,11 @@ use borrow.Author.Needs.{needs}
 use Rattle.calls_step.proofs.run_after.Statement.{statement}
 use Rattle.calls_step.proofs.run_after.Tie as tie
 
+abbrev start : tie.After-run → tie.Start
+start c = c .before .before .before .before .before .before .before .before .before
+
 -- what the steps write
-few : (c : tie.After-run) → c .run .result .filled ≤ stepMost * length (now (c .before .before .before .before .before .before .before .before .before .args .steps))
+few : (c : tie.After-run) → c .run .result .filled ≤ stepMost * length (now (start c .args .steps))
 few c = run-few _ _ _ (omega arith) _ _ _ _ _ (c .run .ensures .run)
 
 run-requires : tie.Need-run-requires
@@ -32,9 +35,8 @@ copy-requires c κs = search needs
 add-result : tie.Need-add-result
 add-result c =
     let r = c .before .before .before .before .before .before .before .before .before .before .before in
-    let s = r .before .before .before .before .before .before .before .before .before in
-    let out = now (s .args .out) in
-    record { fits = sum-fits _ _ out (omega (arith, few r)) (s .good .1 .1 .1 .1 .1 .0 .0) }
+    let s = start r in
+    record { fits = sum-fits _ _ (now (s .args .out)) (omega (arith, few r)) (s .good .1 .1 .1 .1 .1 .0 .0) }
 
 same-length : tie.Need-same-length
 same-length c = search needs

@@ -10,25 +10,30 @@ use borrow.Author.Needs.{needs}
 use Rattle.calls_step.proofs.run_all.Statement.{statement}
 use Rattle.calls_step.proofs.run_all.Tie as tie
 
+abbrev start : tie.After-run → tie.Start
+start c = c .before .before .before .before .before .before .before .before .before .before .before .before
+
+abbrev ran : tie.After-run-text → tie.After-run
+ran c = c .before .before .before .before .before .before .before .before .before .before .before .before .before
+
 -- there is room for the steps
-enough : (c : tie.After-run) → let a = c .before .before .before .before .before .before .before .before .before .before .before .before .args in
-    stepMost * length (now (a .before)) ≤ length (now (a .out))
+enough : (c : tie.After-run) → stepMost * length (now (start c .args .before)) ≤ length (now (start c .args .out))
 enough c = omega arith
 
 -- what they write
-few : (c : tie.After-run) → c .run .result .filled ≤ stepMost * length (now (c .before .before .before .before .before .before .before .before .before .before .before .before .args .before))
+few : (c : tie.After-run) → c .run .result .filled ≤ stepMost * length (now (start c .args .before))
 few c = run-few _ _ _ (enough c) _ _ _ _ _ (c .run .ensures .run)
 
 -- memory keeps its length
-same : (c : tie.After-run) → length (c .run .last .1 .1 .0) ≡ length (now (c .before .before .before .before .before .before .before .before .before .before .before .before .args .mem))
+same : (c : tie.After-run) → length (c .run .last .1 .1 .0) ≡ length (now (start c .args .mem))
 same c = omega arith
 
 -- what all write
-room : (c : tie.After-run-text) → let r = c .before .before .before .before .before .before .before .before .before .before .before .before .before in
-    r .run .result .filled + c .run-text .result ≤ length (now (r .before .before .before .before .before .before .before .before .before .before .before .before .args .out))
+room : (c : tie.After-run-text)
+    → ran c .run .result .filled + c .run-text .result ≤ length (now (start (ran c) .args .out))
 room c =
-    let r = c .before .before .before .before .before .before .before .before .before .before .before .before .before in
-    let s = r .before .before .before .before .before .before .before .before .before .before .before .before in
+    let r = ran c in
+    let s = start r in
     let a = s .args in
     let kept : length (r .run .last .1 .1 .0) ≡ length (now (a .mem)) = same r in
     let rest : c .run-text .result
@@ -40,26 +45,28 @@ run-requires : tie.Need-run-requires
 run-requires c κs = search needs
 
 sub-run-text : tie.Need-sub-run-text
-sub-run-text c = omega (arith, few (c .before .before .before .before .before .before .before .before .before .before .before))
+sub-run-text c =
+    let r = c .before .before .before .before .before .before .before .before .before .before .before in
+    omega (arith, few r)
 
 part-run-text-start : tie.Need-part-run-text-start
-part-run-text-start c = omega (arith, few (c .before .before .before .before .before .before .before .before .before .before .before))
+part-run-text-start c =
+    let r = c .before .before .before .before .before .before .before .before .before .before .before in
+    omega (arith, few r)
 
 part-run-text-end : tie.Need-part-run-text-end
 part-run-text-end c = search needs
 
 run-text-requires : tie.Need-run-text-requires
-run-text-requires c κs = simp (length-take, length-drop) (omega (arith, few (c .before .before .before .before .before .before .before .before .before .before .before .before)))
+run-text-requires c κs =
+    let r = c .before .before .before .before .before .before .before .before .before .before .before .before in
+    simp (length-take, length-drop) (omega (arith, few r))
 
 add-result : tie.Need-add-result
 add-result c =
     let x = c .before .before .before .before .before .before .before .before in
-    let r = x .before .before .before .before .before .before .before .before .before .before .before .before .before in
-    let s = r .before .before .before .before .before .before .before .before .before .before .before .before in
-    record {
-      fits = sum-fits _ _ (now (s .args .out)) (room x)
-          (s .good .1 .1 .1 .1 .1 .1 .1 .1 .0 .0);
-    }
+    let s = start (ran x) in
+    record { fits = sum-fits _ _ (now (s .args .out)) (room x) (s .good .1 .1 .1 .1 .1 .1 .1 .1 .0 .0) }
 
 same-length : tie.Need-same-length
 same-length c = search needs
@@ -76,9 +83,8 @@ same-length-4 c = search needs
 returns : tie.Need-returns
 returns c =
     let x = c .before .before .before .before .before .before .before .before in
-    let r = x .before .before .before .before .before .before .before .before .before .before .before .before .before in (
-      run-text _ _ _ (enough r) _ _ _ _ _ (r .run .ensures .run) _ _ _ _ _ (x .run-text .ensures .0)
-          (room x),
+    let r = ran x in (
+      run-text _ _ _ (enough r) _ _ _ _ _ (r .run .ensures .run) _ _ _ _ _ (x .run-text .ensures .0) (room x),
       room x,
     )
 

@@ -9,12 +9,19 @@ use borrow.Author.Needs.{needs}
 use Rattle.calls_step.proofs.run_text.Statement.{statement}
 use Rattle.calls_step.proofs.run_text.Tie as tie
 
+abbrev start : tie.After-text-step → tie.Start
+start c = c .before .before .before .before .before .before .before .before .before .before .before .before
+
+abbrev stepped : tie.After-run-after → tie.After-text-step
+stepped c =
+    let t = c .before .before .before .before .before .before .before in
+    t .before .before .before .before .before .before .before
+
 -- what both write
-many : (c : tie.After-run-after) → let t = c .before .before .before .before .before .before .before .before .before .before .before .before .before .before in
-    let a = t .before .before .before .before .before .before .before .before .before .before .before .before .args in
-    t .text-step .result .filled + c .run-after .result
+many : (c : tie.After-run-after) → let a = start (stepped c) .args in
+    stepped c .text-step .result .filled + c .run-after .result
     ≤ 1 + length (now (a .reply)) + shownMost + (stepMost * length (now (a .after)) + length (now (a .mem)))
-many c = omega (arith, c .run-after .ensures .1, c .before .before .before .before .before .before .before .before .before .before .before .before .before .before .text-step .ensures .1)
+many c = omega (arith, c .run-after .ensures .1, stepped c .text-step .ensures .1)
 
 text-step-requires : tie.Need-text-step-requires
 text-step-requires c κs = search needs
@@ -34,11 +41,9 @@ run-after-requires c κs = search needs
 add-result : tie.Need-add-result
 add-result c =
     let a = c .before .before .before .before .before .before in
-    let t = a .before .before .before .before .before .before .before .before .before .before .before .before .before .before in
-    let s = t .before .before .before .before .before .before .before .before .before .before .before .before in
+    let s = start (stepped a) in
     record {
-      fits = sum-fits _ _ (now (s .args .out)) (omega (arith, many a, s .pre))
-          (s .good .1 .1 .1 .1 .1 .1 .1 .0 .0);
+      fits = sum-fits _ _ (now (s .args .out)) (omega (arith, many a, s .pre)) (s .good .1 .1 .1 .1 .1 .1 .1 .0 .0);
     }
 
 same-length : tie.Need-same-length
@@ -56,8 +61,8 @@ same-length-4 c = search needs
 returns : tie.Need-returns
 returns c =
     let a = c .before .before .before .before .before .before in
-    let t = a .before .before .before .before .before .before .before .before .before .before .before .before .before .before in
-    let s = t .before .before .before .before .before .before .before .before .before .before .before .before in
+    let t = stepped a in
+    let s = start t in
     let room : t .text-step .result .filled + a .run-after .result ≤ length (now (s .args .out)) =
     omega (arith, many a, s .pre) in (
       text-after _ _ _ _ _ _ _ _ _ _ (t .text-step .ensures .0) _ _ (a .run-after .ensures .0) room,

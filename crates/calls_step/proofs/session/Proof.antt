@@ -15,7 +15,9 @@ slice-aggregate-run-all-2 : tie.Need-slice-aggregate-run-all-2
 slice-aggregate-run-all-2 c = search needs
 
 run-all-requires : tie.Need-run-all-requires
-run-all-requires c κs = omega (arith, begun-length _ (c .before .before .before .before .before .before .before .before .start .ensures))
+run-all-requires c κs =
+    let k = c .before .before .before .before .before .before .before .before in
+    omega (arith, begun-length _ (k .start .ensures))
 
 same-length : tie.Need-same-length
 same-length c = search needs

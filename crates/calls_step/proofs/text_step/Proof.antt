@@ -31,7 +31,11 @@ returns c =
     let h = c .before .before in
     let k = h .before .before .before .before .before .before .before .before .before in (
       steps-shown _ _ _ _ _ _ _ _ _ _ _ (k .step .ensures) (h .shown .ensures),
-      omega (arith, shown-few (k .step .result .number) (k .step .last .1 .1 .1 .1 .1 .1 .1 .1 .0) (k .step .result .answer) _ _ _ (h .shown .ensures .1)),
+      omega (
+        arith,
+        shown-few (k .step .result .number) (k .step .last .1 .1 .1 .1 .1 .1 .1 .1 .0) (k .step .result .answer) _ _ _
+            (h .shown .ensures .1),
+      ),
     )
 
 pub text-step-spec : {M : Type 1} → statement M
