@@ -13,11 +13,10 @@ use Rattle.calls_run.specs.Format.{answerMost, output}
 use Rattle.calls_run.specs.Written.{Writes, Answers}
 use Rattle.calls_run.proofs.Words.{writes-front}
 use Rattle.calls_text.specs.Format.{bufferFill}
-use Rattle.program_io.specs.Session.{workedWorld}
 use Rattle.calls_frame.specs.Format.{callSize as otherSize, answerWithin as otherAnswer}
 use Rattle.calls_step.specs.declared.Lengths.{Lengths}
 use Rattle.calls_step.specs.Format.{stepKind, headBytes, stepHeld, isStep, lengthsOf, areHeld, stepSize, callSize}
-use Rattle.calls_step.specs.Format.{sessionBytes, stepAnswer, answerWithin}
+use Rattle.calls_step.specs.Format.{sessionBytes, workedBegin, stepAnswer, answerWithin}
 
 -- ---- lengths
 
@@ -118,7 +117,7 @@ module _ (call : List ℕ) where
 
   pub writes-step : (l : Lengths) → l ≡ lengthsOf call → (n : ℕ) (before after : List ℕ)
       → Writes
-      (sessionBytes workedWorld (take (l .before) (drop (headBytes + l .text) call))
+      (sessionBytes workedBegin (take (l .before) (drop (headBytes + l .text) call))
       (take (l .text) (drop headBytes call)) (take (l .after) (drop (headBytes + l .text + l .before) call))
       (replicate (l .room) bufferFill))
       n before after

@@ -1,5 +1,5 @@
 -- What steps, a text step and steps after it write, one behind the other. Assumes nothing.
-use mathlib.Core.Path.{_≡_, ap, _∙_}
+use mathlib.Core.Path.{_≡_, refl, ap, _∙_}
 use mathlib.Core.List.{List, _++_}
 use Prim.Native.Nat.{ℕ, _+_, _-_, _*_, _^_, _<_, _≤_}
 use native.Mathlib.Omega.{arith}
@@ -9,7 +9,9 @@ use Rattle.common.proofs.Cases.{on-test}
 use Rattle.common.proofs.Tab.{length-tab}
 use Rattle.memory.specs.Head.{house}
 use Rattle.rules.specs.Outcome.{World, world, answerBytes, shownWith, shown}
+use Rattle.rules.specs.Worked.{workedSetup}
 use Rattle.rules.specs.declared.Answer.{Answer}
+use Rattle.rules.proofs.Computes.{steps-compute}
 use Rattle.rules.specs.Step.{textStepOf}
 use Rattle.target.specs.View.{viewOf}
 use Rattle.program_run.specs.declared.Ran.{Ran}
@@ -20,10 +22,10 @@ use Rattle.program_run.specs.Written.{Writes as Puts, Steps, Runs}
 use Rattle.program_run.proofs.Runs.{room-enough}
 use Rattle.program_run.proofs.Steps.{length-answer}
 use Rattle.program_run.proofs.Writes.{over-front, writes-part}
-use Rattle.program_io.specs.Session.{Begins, workedWorld}
+use Rattle.program_io.specs.Session.{Begins}
 use Rattle.program_io.specs.declared.Beginning.{Beginning}
 use Rattle.calls_run.specs.Written.{Writes}
-use Rattle.calls_step.specs.Format.{endingBytes, textBytes, sessionBytes}
+use Rattle.calls_step.specs.Format.{endingBytes, textBytes, sessionBytes, workedBegin}
 
 -- a buffer of which the front is lent for no more, and the part behind it was written
 abbrev pub Joined : List ℕ → ℕ → List ℕ → List ℕ
@@ -95,9 +97,14 @@ shown-few number reply a n before after p =
 
 -- ---- the beginning
 
+-- an accepted setup leaves what it was lent
+worked-begin : world (workedBegin .target) (workedSetup .mem) (workedSetup .regs) ≡ workedBegin
+unfolding steps-compute
+worked-begin = refl
+
 pub begun : (b : Beginning) → Begins b → (words : List ℕ)
-    → world (viewOf (b .target) words) (b .mem) (b .regs) ≡ workedWorld
-begun b h words = rw (h .target words, h .mem, h .regs)
+    → world (viewOf (b .target) words) (b .mem) (b .regs) ≡ workedBegin
+begun b h words = rw (h .target words, h .mem, h .regs) worked-begin
 
 pub begun-length : (b : Beginning) → Begins b → length (b .mem) ≡ 64
 begun-length b h = ap length (h .mem) ∙ length-tab 64 (λ i. i)

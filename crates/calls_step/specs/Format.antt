@@ -7,9 +7,9 @@ use lib.ListN.{length, getD, take, drop, replicate}
 use Rattle.common.specs.Bytes.{wordAt}
 use Rattle.memory.specs.Head.{house}
 use Rattle.rules.specs.Outcome.{World, shown}
-use Rattle.rules.specs.Step.{textStepOf}
+use Rattle.rules.specs.Step.{setupBy, textStepOf}
+use Rattle.rules.specs.Worked.{workedSetup}
 use Rattle.program_run.specs.Run.{runOf}
-use Rattle.program_io.specs.Session.{workedWorld}
 use Rattle.calls_run.specs.Format.{wordBytes, answerMost, Output, output}
 use Rattle.calls_text.specs.Format.{bufferFill}
 use Rattle.calls_frame.specs.Format.{callSize as otherSize, answerWithin as otherAnswer}
@@ -87,10 +87,14 @@ sessionBytes w before text after reply =
     let q = runOf w before in
     q .output ++ textBytes (q .after) text after reply
 
--- "over the worked setup"; the reply buffer is lent full of ee
+-- "the worked setup": the record, memory and register area that it leaves
+abbrev pub workedBegin : World
+workedBegin = setupBy workedSetup .after
+
+-- over it; the reply buffer is lent full of ee
 unfoldable pub stepAnswer : List ℕ → List ℕ
 stepAnswer call =
-    sessionBytes workedWorld (beforeOf call) (textOf call) (afterOf call)
+    sessionBytes workedBegin (beforeOf call) (textOf call) (afterOf call)
     (replicate (lengthsOf call .room) bufferFill)
 
 -- "Input that ends inside a call ends it; a length that is not held writes ff and ends it"; with a buffer that is too

@@ -15,12 +15,12 @@ ghost use Rattle.rules.specs.Outcome.{world};
 ghost use Rattle.rules.specs.Step.{textStepOf};
 ghost use Rattle.program_run.specs.Encoding.{stepMost, answerMost as shownMost};
 ghost use Rattle.program_run.specs.Written.{Writes as Puts, Steps};
-ghost use Rattle.program_io.specs.Session.{workedWorld};
 ghost use Rattle.calls_run.specs.Format.{answerMost, callMost};
 ghost use Rattle.calls_run.specs.Written.{Writes, Answers};
 ghost use Rattle.calls_text.specs.Format.{bufferFill};
 ghost use Rattle.calls_step.specs.Format.{headBytes, stepHeld, isStep, lengthsOf, areHeld, stepSize, callSize};
-ghost use Rattle.calls_step.specs.Format.{endingBytes, textBytes, sessionBytes, stepAnswer, answerWithin};
+ghost use Rattle.calls_step.specs.Format.{endingBytes, textBytes, sessionBytes, workedBegin, stepAnswer};
+ghost use Rattle.calls_step.specs.Format.{answerWithin};
 
 // The kind of a call that makes a text step.
 const STEP: u8 = 10;
@@ -198,7 +198,7 @@ fn session(before: &[u8], text: &[u8], after: &[u8], reply: &mut [u8], out: &mut
     requires { ⌜ (length (now before) ≤ stepHeld) × (length (now after) ≤ stepHeld) × (length (now reply) ≤ stepHeld)
         × (answerMost ≤ length (now out)) ⌝ }
     ensures { λ r. ⌜ Writes
-        (sessionBytes workedWorld (now (before .entry)) (now (text .entry)) (now (after .entry)) (now (reply .entry)))
+        (sessionBytes workedBegin (now (before .entry)) (now (text .entry)) (now (after .entry)) (now (reply .entry)))
         r (now (out .entry)) (now (out .exit)) ⌝ }
 {
     let begin = program_io::start();
