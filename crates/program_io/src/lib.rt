@@ -19,15 +19,15 @@ ghost use Rattle.program_run.specs.Run.{goesOn};
 ghost use Rattle.program_io.specs.Session.{Begins, TurnLeaves};
 
 // The bytes of the worked setup's window, and of the register area of its two processes.
-const WINDOW: usize = 64;
+pub const WINDOW: usize = 64;
 
-const REGISTERS: usize = 2 * Process::BLOCK;
+pub const REGISTERS: usize = 2 * Process::BLOCK;
 
 // What the program begins with: the record, the window's memory and the register area.
-struct Beginning {
-    target: Target,
-    mem: [u8; WINDOW],
-    regs: [u8; REGISTERS],
+pub struct Beginning {
+    pub target: Target,
+    pub mem: [u8; WINDOW],
+    pub regs: [u8; REGISTERS],
 }
 
 // What a turn leaves: the record, how many bytes of output are filled, how many bytes of a cut step are at the front
@@ -61,7 +61,7 @@ fn registers() -> [u8; REGISTERS]
 }
 
 // The worked setup: B = 4,096, M = 64, processes 5 and 7. It is accepted.
-fn start() -> Beginning
+pub fn start() -> Beginning
     ensures { λ r. ⌜ Begins r ⌝ }
 {
     let mem = window();

@@ -53,9 +53,9 @@ pub struct Ran {
 }
 
 // One step's record and how many bytes it wrote.
-struct Stepped {
-    target: Target,
-    filled: usize,
+pub struct Stepped {
+    pub target: Target,
+    pub filled: usize,
 }
 
 fn listed_kind(byte: u8) -> KindByte
@@ -131,7 +131,7 @@ fn show_reply(reply: &[u8], answer: Answer, out: &mut [u8]) -> usize
 
 // Writes a number and, where it is 0, a reply and an answer.
 fn show(number: u8, reply: &[u8], answer: Answer, out: &mut [u8]) -> usize
-    requires { ⌜ (length (now reply) ≤ messageBytes) × (stepMost ≤ length (now out)) ⌝ }
+    requires { ⌜ 1 + length (now reply) + answerMost ≤ length (now out) ⌝ }
     ensures { λ r. ⌜ Writes (shownWith number (now (reply .entry) ++ answerBytes house answer)) r
         (now (out .entry)) (now (out .exit)) ⌝ }
 {
@@ -143,8 +143,8 @@ fn show(number: u8, reply: &[u8], answer: Answer, out: &mut [u8]) -> usize
 }
 
 // What a step gave, and what it shows written.
-fn shown(done: Done, reply: &[u8], out: &mut [u8]) -> Stepped
-    requires { ⌜ (length (now reply) ≤ messageBytes) × (stepMost ≤ length (now out)) ⌝ }
+pub fn shown(done: Done, reply: &[u8], out: &mut [u8]) -> Stepped
+    requires { ⌜ 1 + length (now reply) + answerMost ≤ length (now out) ⌝ }
     ensures { λ r. ⌜ (r .target ≡ done .target)
         × Writes (shownWith (done .number) (now (reply .entry) ++ answerBytes house (done .answer))) (r .filled)
         (now (out .entry)) (now (out .exit)) ⌝ }
