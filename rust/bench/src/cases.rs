@@ -118,7 +118,10 @@ impl Case {
     /// Does one turn.
     fn seen(&self, side: &mut impl Side) -> Seen {
         let mut steps = Vec::new();
-        run(side, &self.work, 1, |side, result| steps.push((result, side.lent().reply.clone())));
+        run(side, &self.work, 1, |side, result| {
+            let lent = side.lent();
+            steps.push((result, [&lent.reply[..], &lent.text].concat()));
+        });
         let lent = side.lent();
         Seen { steps, memory: lent.memory.clone(), registers: lent.registers.clone() }
     }
@@ -148,7 +151,7 @@ impl Case {
 
 /// Every case over each window, those of one name together.
 pub fn cases(windows: &[u32]) -> Vec<Case> {
-    let groups = [reads, writes, processes, changes, full_pool, traps, events, refusals];
+    let groups = [reads, writes, texts, processes, changes, full_pool, traps, events, refusals];
     let over = |group: fn(u32) -> Vec<Case>| windows.iter().flat_map(move |&window| group(window));
     let mut list: Vec<Case> = groups.into_iter().flat_map(over).collect();
     let names: Vec<&str> = list.iter().map(|case| case.name).collect();
@@ -294,6 +297,38 @@ fn writes(window: u32) -> Vec<Case> {
         write("Tmput 4, no site", Fill::Full, clear(window)),
         write("Tmput 4, across three sites", Fill::Three, odd),
         write("Tmput 4, across three sites", Fill::Full, odd),
+    ]
+}
+
+/// Words by the text dialect: one that is read, and one that is written and then written back. From
+/// the middle of the window on, the four bytes of a word are those of two sites.
+fn texts(window: u32) -> Vec<Case> {
+    let case = |name, fill: Fill, sites, requests: &[(u8, u32, u32, u32)]| {
+        let text = |&(letter, address, data, _): &(u8, u32, u32, u32)| {
+            format!("0x0 {} {address:#x} {data:#x}", char::from(letter))
+        };
+        let filled = |(letter, .., response): &(u8, u32, u32, u32)| {
+            let reply = format!("0x0 {} 0x0 {response:#x}", char::from(*letter));
+            (u32::from_le_bytes([0, 0, reply.len() as u8, 0]), 0)
+        };
+        let work = Work::Texts(requests.iter().map(text).collect());
+        let before = standing(fill.count(), window, sites);
+        let expected: Vec<_> = requests.iter().map(filled).collect();
+        Case::of(name, fill, window, before, work).gives(&expected)
+    };
+    let plain = |at: u32| u32::from_le_bytes([0, 1, 2, 3].map(|i| (at - BASE + i) as u8));
+    let read = |at| [(b'i', at, 0, plain(at))];
+    // A word of as many digits, so that no reply is longer than the one before it.
+    let other = |at| plain(at) ^ 0x0101_0101;
+    let twice = |at| [(b'I', at, other(at), plain(at)), (b'I', at, plain(at), other(at))];
+    let (away, two) = (clear(window), together(window, 0));
+    vec![
+        case("text i, no site", Fill::Empty, apart, &read(away)),
+        case("text i, no site", Fill::Full, apart, &read(away)),
+        case("text i, two sites", Fill::Full, together, &read(two)),
+        case("text I, I, no site", Fill::Empty, apart, &twice(away)),
+        case("text I, I, no site", Fill::Full, apart, &twice(away)),
+        case("text I, I, two sites", Fill::Full, together, &twice(two)),
     ]
 }
 

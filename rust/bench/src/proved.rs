@@ -30,12 +30,15 @@ pub struct Proved<C> {
 }
 
 impl<C: Caller> Proved<C> {
-    /// Every step: the reply buffer is lent to those that answer in it.
+    /// Every step: a reply buffer is lent to those that answer in it.
     #[inline(always)]
-    fn step(&mut self, kind: Kind, pid: u32, value: u8, input: &[u8], replies: bool) -> u32 {
-        let Lent { memory, registers, reply, .. } = &mut self.lent;
-        let none: &mut [u8] = &mut [];
-        let reply = if replies { &mut reply[..] } else { none };
+    fn step(&mut self, kind: Kind, pid: u32, value: u8, input: &[u8]) -> u32 {
+        let Lent { memory, registers, reply, text, .. } = &mut self.lent;
+        let reply: &mut [u8] = match kind {
+            Kind::Request | Kind::Restart => reply,
+            Kind::Text => text,
+            _ => &mut [],
+        };
         let record = &mut *self.record;
         let lent = call::Lent { record, memory, registers, pid, value, input, reply };
         black_box(self.caller.call(kind, lent))
@@ -68,32 +71,37 @@ impl<C: Caller> Side for Proved<C> {
         for (process, (pid, address)) in target.processes.iter_mut().zip(black_box(PROCESSES)) {
             (process.pid, process.address) = (pid, address);
         }
-        self.step(Kind::Setup, 0, 0, &[], false)
+        self.step(Kind::Setup, 0, 0, &[])
     }
 
     #[inline(always)]
     fn request(&mut self, request: &Request) -> u32 {
-        self.step(Kind::Request, 0, 0, request, true)
+        self.step(Kind::Request, 0, 0, request)
+    }
+
+    #[inline(always)]
+    fn text(&mut self, request: &[u8]) -> u32 {
+        self.step(Kind::Text, 0, 0, request)
     }
 
     #[inline(always)]
     fn trap(&mut self, event: &Event) -> u32 {
-        self.step(Kind::Trap, event.pid, 0, &event.block, false)
+        self.step(Kind::Trap, event.pid, 0, &event.block)
     }
 
     #[inline(always)]
     fn schedule(&mut self, event: &Event) -> u32 {
-        self.step(Kind::Schedule, event.pid, 0, &event.block, false)
+        self.step(Kind::Schedule, event.pid, 0, &event.block)
     }
 
     #[inline(always)]
     fn state(&mut self, pid: u32, value: u8) -> u32 {
-        self.step(Kind::State, pid, value, &[], false)
+        self.step(Kind::State, pid, value, &[])
     }
 
     #[inline(always)]
     fn restart(&mut self) -> u32 {
-        self.step(Kind::Restart, 0, 0, &[], true)
+        self.step(Kind::Restart, 0, 0, &[])
     }
 
     #[inline(always)]

@@ -4,7 +4,7 @@
 //! a library is, and the step is not specialised to the benchmark's loops.
 
 use crate::side::{Event, Lent, Request, Side, BASE, LAST, PROCESSES};
-use bench_stub::{Refusal, Stub, Verdict, READY};
+use bench_stub::{Refusal, Replied, Stub, Verdict, READY};
 use std::hint::black_box;
 
 pub struct RustStub {
@@ -21,6 +21,11 @@ fn setup(stub: &mut Stub, lent: &Lent, base: u32, list: &[(u32, u32)]) -> Result
 #[inline(never)]
 fn request(stub: &mut Stub, lent: &mut Lent, request: &[u8]) -> Result<Option<[u8; 2]>, Refusal> {
     stub.request(&mut lent.memory, &mut lent.registers, request, &mut lent.reply)
+}
+
+#[inline(never)]
+fn text(stub: &mut Stub, lent: &mut Lent, request: &[u8]) -> Result<Replied, Refusal> {
+    stub.text(&mut lent.memory, &mut lent.registers, request, &mut lent.text)
 }
 
 #[inline(never)]
@@ -77,6 +82,12 @@ impl Side for RustStub {
     fn request(&mut self, bytes: &Request) -> u32 {
         let plain = black_box(request(&mut self.stub, &mut self.lent, bytes));
         packed(plain.map(|plain| plain.map_or([0; 3], |[first, second]| [2, first, second])))
+    }
+
+    #[inline(always)]
+    fn text(&mut self, bytes: &[u8]) -> u32 {
+        let replied = black_box(text(&mut self.stub, &mut self.lent, bytes));
+        packed(replied.map(|Replied { failed, filled }| [failed.into(), filled as u8, 0]))
     }
 
     #[inline(always)]

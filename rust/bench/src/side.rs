@@ -1,6 +1,6 @@
 //! What the benchmark asks of a stub, so that the proved one and the Rust one get the same work.
 
-use reference::{BLOCK, MESSAGE, PC};
+use reference::{BLOCK, LONGEST_TEXT, MESSAGE, PC};
 
 /// The address of every window.
 pub const BASE: u32 = 4_096;
@@ -32,6 +32,8 @@ pub struct Lent {
     pub memory: Vec<u8>,
     pub registers: Vec<u8>,
     pub reply: Vec<u8>,
+    /// The reply buffer of a text step.
+    pub text: Vec<u8>,
     /// The bytes of memory that the timed step changes, as they stood before it.
     pub undo: Vec<(usize, u8)>,
 }
@@ -43,6 +45,7 @@ impl Lent {
             memory: (0..window).map(|i| i as u8).collect(),
             registers: vec![0; PROCESSES.len() * BLOCK],
             reply: vec![0; MESSAGE],
+            text: vec![0; LONGEST_TEXT],
             undo: Vec::new(),
         }
     }
@@ -65,6 +68,7 @@ pub trait Side {
 
     fn setup(&mut self) -> u32;
     fn request(&mut self, request: &Request) -> u32;
+    fn text(&mut self, request: &[u8]) -> u32;
     fn trap(&mut self, event: &Event) -> u32;
     fn schedule(&mut self, event: &Event) -> u32;
     fn state(&mut self, pid: u32, value: u8) -> u32;

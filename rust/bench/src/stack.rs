@@ -200,8 +200,6 @@ mod tests {
     #[test]
     fn every_step_is_measured() {
         let depths = depths(&cases(&[64]));
-        // There is no case of a text step.
-        let steps: Vec<_> = Kind::ALL.into_iter().filter(|&kind| kind != Kind::Text).collect();
-        assert_eq!(depths.iter().map(|depth| depth.step).collect::<Vec<_>>(), steps);
+        assert_eq!(depths.iter().map(|depth| depth.step).collect::<Vec<_>>(), Kind::ALL);
     }
 }

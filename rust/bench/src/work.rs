@@ -8,6 +8,8 @@ pub enum Work {
     Setup,
     /// Requests that together leave things as they were.
     Requests(Vec<Request>),
+    /// Text requests that together leave things as they were.
+    Texts(Vec<String>),
     /// A request before which the image is copied back: one that changes things.
     Change(Request),
     /// A trap answered Pass.
@@ -32,6 +34,7 @@ impl Work {
     pub fn steps(&self) -> usize {
         match self {
             Self::Requests(list) => list.len(),
+            Self::Texts(list) => list.len(),
             Self::Wanted(..) => 2,
             Self::Copy => 0,
             _ => 1,
@@ -55,6 +58,13 @@ pub fn run<S: Side>(side: &mut S, work: &Work, turns: u64, mut see: impl FnMut(&
             for _ in 0..turns {
                 for request in list {
                     each(side, 1, see, |side| side.request(black_box(request)));
+                }
+            }
+        }
+        Work::Texts(list) => {
+            for _ in 0..turns {
+                for text in list {
+                    each(side, 1, see, |side| side.text(black_box(text.as_bytes())));
                 }
             }
         }

@@ -12,11 +12,13 @@ mod event;
 mod fit;
 mod record;
 mod request;
+mod text;
 mod window;
 
 pub use condition::Element;
 pub use event::Verdict;
 pub use record::{Draft, Entry, Process, Refusal, Stub};
+pub use text::{Replied, TEXT};
 
 /// The bytes of a message, of a request and of a reply.
 pub const MESSAGE: usize = 10;

@@ -12,6 +12,8 @@ pub enum Refusal {
     Unlisted = 4,
     Stopped = 5,
     NoSite = 6,
+    NoPacket = 10,
+    ShortText = 11,
 }
 
 impl Refusal {

@@ -1,9 +1,10 @@
 //! This stub beside the independent one: the same answers, buffers and records over random steps, and
 //! the same judgement of spoiled records.
 
-use bench_stub::{Element, Entry, Refusal, Stub, Verdict, BLOCK, MESSAGE};
-use reference::{body_length, Breakpoint, Draft, Session};
-use steps::{program, Rng};
+use bench_stub::{Element, Entry, Refusal, Replied, Stub, Verdict, BLOCK, MESSAGE};
+use reference::{body_length, write_text, Breakpoint, Draft, NotServed, Session, LONGEST_TEXT};
+use std::collections::BTreeMap;
+use steps::{program, Generator, Rng};
 
 /// A stub and what is lent to it.
 #[derive(Clone)]
@@ -112,6 +113,42 @@ fn both_stubs_do_the_same() {
             assert_eq!((&own.memory, &own.registers), (&other.memory, &other.registers));
         }
     }
+}
+
+#[test]
+fn both_stubs_serve_texts_the_same() {
+    let (mut steps, mut generator, mut answers) = (Vec::new(), Generator::new(6), BTreeMap::new());
+    program::write(6, 40_000, &mut steps).unwrap();
+    let (mut own, mut other, mut at) = (Own::worked(), Session::worked(), 0);
+    while at < steps.len() {
+        let (kind, start) = (steps[at], at + 1);
+        at = start + body_length(kind).unwrap();
+        own.step(kind, &steps[start..at]);
+        other.step(kind, &steps[start..at]);
+        let packet = generator.burst(&other.stub, &other.memory).packet();
+        let mut text = [0; LONGEST_TEXT];
+        let length = write_text(packet, &mut text).unwrap();
+        let rng = &mut generator.rng;
+        if rng.chance(20) {
+            text[rng.index(length)] = rng.pick(b" 0x19afAR-");
+        }
+        let (length, room) = (length - rng.index(10) / 9, 33 + rng.index(20).min(2));
+        let mut replies = [vec![0xee; room], vec![0xee; room]];
+        let Own { stub, memory, registers } = &mut own;
+        let ours = stub.text(memory, registers, &text[..length], &mut replies[0]);
+        let Session { stub, memory, registers, .. } = &mut other;
+        let theirs = stub.text(memory, registers, &text[..length], &mut replies[1]);
+        let seen = ours.map(|Replied { failed, filled }| (failed, filled));
+        let wanted = theirs.map(|served| (served.done.is_err(), served.filled));
+        assert_eq!(seen.map_err(Refusal::number), wanted.map_err(NotServed::number), "{packet:?}");
+        assert_eq!(replies[0], replies[1], "{packet:?}");
+        assert_eq!(view(&own.stub).as_ref(), Some(&other.stub), "{packet:?}");
+        assert_eq!((&own.memory, &own.registers), (&other.memory, &other.registers));
+        let errno = theirs.map(|served| served.done.map_err(|errno| errno.number()).err());
+        *answers.entry(errno.map_err(NotServed::number)).or_insert(0) += 1;
+    }
+    // Served, four errors, no packet and too short a buffer.
+    assert!(answers.len() == 7 && answers.values().all(|&count| count > 100), "{answers:?}");
 }
 
 /// Changes something of a record.
