@@ -1,4 +1,5 @@
--- `patch_next::lowest` meets its contract. The loop's invariant: no byte from `at` to before i differs. Assumes nothing.
+-- `patch_next::lowest` meets its contract. The loop's invariant: no byte from `at` to before i differs. Assumes
+-- nothing.
 use mathlib.Core.Path.{_≡_, refl, sym, _∙_}
 use Prim.Native.Nat.{_-_, _≤_}
 use native.Mathlib.Omega.{arith}
