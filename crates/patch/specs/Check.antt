@@ -2,7 +2,7 @@
 --
 -- Writes name addresses; images and the protected stretch go by offset into the window, which stands at address base.
 -- `free` is any test of the offsets that a write may hold: `isFree` is the one of a window with a protected stretch.
-use Prim.Native.Nat.{ℕ, _+_, _-_}
+use Prim.Native.Nat.{ℕ, suc, _+_, _-_}
 use mathlib.Core.Bool.{Bool, not, cond, _&&_}
 use mathlib.Core.List.{List, [], _∷_}
 use lib.Dec.{leb, ltb}
@@ -55,3 +55,24 @@ verdictBy free base plain wanted ws =
 
 unfoldable pub verdict : ℕ → ℕ → ℕ → List ℕ → List ℕ → List Write → Verdict
 verdict base from to plain wanted ws = verdictBy (isFree (length plain) from to) base plain wanted ws
+
+-- ---- for the code, which checks and makes one write after the other
+
+-- where it stops: how many writes are made, and the image after them
+pub record Checked : Type 0 where
+  pub index : ℕ
+  pub image : List ℕ
+
+abbrev pub checked : ℕ → List ℕ → Checked
+checked index image = record { index = index; image = image }
+
+-- the writes from index i on, up to the first that breaks a bound
+unfoldable pub checkFrom : (ℕ → Bool) → ℕ → ℕ → List Write → List ℕ → Checked
+checkFrom free base i [] image = checked i image
+checkFrom free base i (w ∷ ws) image =
+    cond (inBounds free base w) (checkFrom free base (suc i) ws (applied base image w)) (checked i image)
+
+-- what that says of an offer of n writes
+unfoldable pub verdictOf : ℕ → List ℕ → Checked → Verdict
+verdictOf n wanted c =
+    cond (ltb (c .index) n) (BrokenBound (c .index)) (cond (sameList (c .image) wanted) Accepted ImagesDiffer)

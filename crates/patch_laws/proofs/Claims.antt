@@ -33,6 +33,7 @@ use Rattle.patch_laws.proofs.Verdict.{
   differ-only,
 }
 use Rattle.patch_laws.proofs.Verdict as by
+use Rattle.patch_laws.proofs.Walked.{walked}
 
 -- ---- the checker
 
@@ -79,6 +80,7 @@ module _ (base from to : ℕ) (plain wanted : List ℕ) (ws : List Write) where
           λ e. let p = differ-only free base plain wanted ws e in (all-keep (p .0), p .1),
           λ p. differ free base plain wanted ws (keep-all (p .0)) (p .1),
         );
+        one-by-one = walked free base plain wanted ws;
       }
 
 -- ---- the planner

@@ -30,7 +30,7 @@ module _ (free : ℕ → Bool) (base : ℕ) where
   none-broken [] h = refl
   none-broken (w ∷ ws) h = rw (h .0) (ap suc (none-broken ws (h .1)))
 
-  all-in : (ws : List Write) → length ws ≤ firstBroken free base ws → AllIn ws
+  pub all-in : (ws : List Write) → length ws ≤ firstBroken free base ws → AllIn ws
   unfolding firstBroken firstOf
   all-in [] h = tt
   all-in (w ∷ ws) h =

@@ -7,7 +7,7 @@ use mathlib.Core.Logic.{_↔_}
 use lib.ListN.{length, getD, take, drop}
 use Rattle.common.specs.Numbers.{accepted}
 use Rattle.patch.specs.Answer.{Planned, planned, planning, planOf, shortPlan, protectedByte}
-use Rattle.patch.specs.Check.{applied, appliedAll, verdict}
+use Rattle.patch.specs.Check.{isFree, applied, appliedAll, verdict, checkFrom, verdictOf}
 use Rattle.patch.specs.Plan.{plan}
 use Rattle.patch.specs.declared.Write.{Write}
 use Rattle.patch.specs.declared.Verdict.the-variants.{Accepted, BrokenBound, ImagesDiffer}
@@ -65,6 +65,9 @@ module _ (base from to : ℕ) (plain wanted : List ℕ) (ws : List Write) where
     -- "or says the images differ"
     pub differ : (verdict base from to plain wanted ws ≡ ImagesDiffer)
         ↔ (AllKeep × (appliedAll base plain ws ≡ wanted → ⊥))
+    -- checking and making one write after the other, up to the first that breaks a bound, gives the verdict
+    pub one-by-one : verdictOf (length ws) wanted (checkFrom (isFree (length plain) from to) base 0 ws plain)
+        ≡ verdict base from to plain wanted ws
 
 -- ---- the planner, over a lent list
 
