@@ -7,11 +7,11 @@ has, and memory afterwards where it matters: the script stops where the two diff
 calls.
 """
 
-import random
 import sys
 
 from text_step_vectors import ACCEPTED, BAD_TEXTS, BASE, BEGIN, FILL, LEAST_BUFFER, LOOK, MINUS_ONE, NO_PACKET
-from text_step_vectors import EBUSY, EFAULT, EINVAL, ESRCH, SHORT_BUFFER, SIZE, TEXT, Script, step_bytes, word
+from text_step_vectors import EBUSY, EFAULT, EINVAL, ESRCH, SHORT_BUFFER, SIZE, TEXT, Script, any_text, chance
+from text_step_vectors import step_bytes, word
 
 STEP = 10
 HELD = 1024
@@ -324,22 +324,11 @@ DIRECTED = (word_errors, register_errors, low_addresses, letters, buffers, texts
 # ---- Random calls, with the answers of Stub. ----
 
 def scattered():
-    # Of this generator only random() is the same in every version of Python.
-    noise = random.Random(SEED).random
-
-    def pick(choices):
-        return choices[int(noise() * len(choices))]
-
+    noise, pick = chance(SEED)
     befores = (None, ready, nobody, other, stopped, stopped, stopped, released, one_trap, upper_trap, two_traps,
                two_traps, traps_beside)
     for _ in range(RANDOM_CALLS):
-        letter = pick("iiddIIDDrrRRcsz")
-        addresses = [BASE + 4 * pick(range(16)), BASE - 6 + pick(range(76)), 0x1008, int(noise() * 2 ** 32)]
-        third = pick(range(36)) if letter in "rR" else pick(addresses)
-        text = f"{pick(('0x0',) * 9 + ('0x7',))} {letter} {third:#x} {int(noise() * 16 ** pick(range(9))):#x}"
-        if noise() < 0.1:
-            place = pick(range(len(text)))
-            text = text[:place] + pick("0 xaF") + text[place + pick((0, 1)):]
+        text = any_text(noise, pick)
         yield one(text, None, pick(befores), pick((None, None, Call.restart)), pick((0, 33, 34, 34, 34, 35, 60)))
 
 

@@ -447,26 +447,33 @@ def condition_in_hand(s):
 DIRECTED = (words, window_ends, one_trap, two_traps, registers, register_errors, letters, numbers, condition_in_hand)
 
 
+def chance(seed):
+    """Numbers from 0 to below 1, and a choice by one of them."""
+    # Of this generator only random() is the same in every version of Python.
+    noise = random.Random(seed).random
+    return noise, lambda choices: choices[int(noise() * len(choices))]
+
+
+def any_text(noise, pick):
+    """A request, mostly one that is served; one in ten has a wrong byte, or one too many."""
+    letter = pick("iiddIIDDrrRRcsz")
+    addresses = [BASE + 4 * pick(range(16)), BASE - 6 + pick(range(76)), 0x1008, int(noise() * 2 ** 32)]
+    third = pick(range(36)) if letter in "rR" else pick(addresses)
+    text = f"{pick(('0x0',) * 9 + ('0x7',))} {letter} {third:#x} {int(noise() * 16 ** pick(range(9))):#x}"
+    if noise() < 0.1:
+        place = pick(range(len(text)))
+        text = text[:place] + pick("0 xaF") + text[place + pick((0, 1)):]
+    return text
+
+
 def scattered(s):
     """Random requests over two traps and a Stopped process, with the answers of Stub."""
-    # Of this generator only random() is the same in every version of Python.
-    noise = random.Random(SEED).random
-
-    def pick(choices):
-        return choices[int(noise() * len(choices))]
-
+    noise, pick = chance(SEED)
     s.plant(3, 0x1008)
     s.plant(4, 0x100A)
     s.stop(7, 0x10, 0x1008)
     for _ in range(RANDOM_STEPS):
-        letter = pick("iiddIIDDrrRRcsz")
-        addresses = [BASE + 4 * pick(range(16)), BASE - 6 + pick(range(76)), 0x1008, int(noise() * 2 ** 32)]
-        third = pick(range(36)) if letter in "rR" else pick(addresses)
-        text = f"{pick(('0x0',) * 9 + ('0x7',))} {letter} {third:#x} {int(noise() * 16 ** pick(range(9))):#x}"
-        if noise() < 0.1:
-            place = pick(range(len(text)))
-            text = text[:place] + pick("0 xaF") + text[place + pick((0, 1)):]
-        s.text(text, None, pick((0, 33, 34, 34, 34, 34, 35, 60)))
+        s.text(any_text(noise, pick), None, pick((0, 33, 34, 34, 34, 34, 35, 60)))
         if noise() < 0.1:
             s.select(pick((5, 7)))
 
