@@ -1,5 +1,5 @@
-// The checker's verdict on a lent list of offered writes. `check` is thin, and walked by hand; `decide` has what is left
-// to decide.
+// The checker's verdict on a lent list of offered writes. `check` is thin, and walked by hand; `decide` has what is
+// left to decide.
 use patch::Verdict;
 use patch::Write;
 ghost use mathlib.Core.Path.{_≡_};
