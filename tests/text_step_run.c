@@ -50,8 +50,12 @@ static void give_answer(uint8_t number, const uint8_t *bytes, size_t length) {
 }
 
 static void begin(void) {
-    const struct sanirvoq_setup setup = {
-        .base = BASE, .size = SIZE, .count = PROCESSES, .processes = {{5, 0x80001000}, {7, 0x80002000}}};
+    const struct sanirvoq_setup setup = {.base = BASE,
+                                         .size = SIZE,
+                                         .protected_from = BASE,
+                                         .protected_to = BASE,
+                                         .count = PROCESSES,
+                                         .processes = {{5, 0x80001000}, {7, 0x80002000}}};
     memset(registers, 0, AREA);
     for (int i = 0; i < SIZE; i++) {
         memory[i] = (uint8_t)i;
