@@ -499,7 +499,8 @@ def refused_setups():
                  (top, 0, 0), (top, 0, 4), (top, TOP, TOP - 4), (top, top - 4, TOP), (top, TOP - 1, TOP))
     for base, start, end in stretches:
         yield Call(Setup(base, 64, start, end), 1)
-    for base, size in ((4092, 64), (4098, 64), (0, 64), (TOP - 60, 64), (4096, 0), (4096, 2), (4096, 62), (4096, 65540)):
+    windows = (4092, 64), (4098, 64), (0, 64), (TOP - 60, 64), (4096, 0), (4096, 2), (4096, 62), (4096, 65540)
+    for base, size in windows:
         yield Call(Setup(base, size, base, base), 1)
         yield Call(Setup(base, size, 1, 0), 1)
     pairs = ((5, 0), (7, 0), (9, 0), (11, 0))
@@ -776,7 +777,8 @@ def any_text(call, noise, pick):
     letter = pick("iIDdIDrRc")
     edge = pick((stub.base, stub.base + stub.size, stub.start, stub.end))
     third = pick(range(36)) if letter in "rR" else (edge + pick((-4, -4, 0, 0, 1, 2, 4))) % TOP
-    call.text(f"{pick((0, 0, 0, 0, 5)):#x} {letter} {third:#x} {int(noise() * TOP):#x}", None, pick((34, 34, 34, 40, 33)))
+    text = f"{pick((0, 0, 0, 0, 5)):#x} {letter} {third:#x} {int(noise() * TOP):#x}"
+    call.text(text, None, pick((34, 34, 34, 40, 33)))
 
 
 def scattered():
