@@ -2,7 +2,7 @@
 //! stub cannot hold is not fit; what they hold, `reference::fit` judges. Also whether a record
 //! shows what the independent stub has.
 
-use reference::{Breakpoint, Draft, Element, List, Process, Stub, ENTRIES};
+use reference::{Breakpoint, Draft, Element, List, Process, Protected, Stub, ENTRIES};
 use sanirvoq::{ffi, Element as Place};
 
 /// The record in the independent stub's types. None where a flag is neither 0 nor 1, there are more
@@ -24,7 +24,13 @@ pub fn held(record: &ffi::Record) -> Option<Stub> {
     };
     let current = flag(target.selected)?.then_some(target.current);
     let processes = processes(target)?;
-    Some(Stub { base: target.base, size: target.size, processes, table, draft, current })
+    let (base, size, protected) = (target.base, target.size, protected(target));
+    Some(Stub { base, size, protected, processes, table, draft, current })
+}
+
+/// Any two numbers are held.
+fn protected(target: &ffi::Target) -> Protected {
+    Protected { offset: target.protected_offset, length: target.protected_length }
 }
 
 fn flag(byte: u8) -> Option<bool> {
@@ -60,6 +66,7 @@ fn elements(places: Option<impl Iterator<Item = Place>>) -> Option<Vec<Element>>
 pub fn shows(record: &ffi::Record, stub: &Stub) -> bool {
     let target = &record.target;
     (target.base, target.size) == (stub.base, stub.size)
+        && protected(target) == stub.protected
         && shows_processes(target, stub)
         && target.selected == u8::from(stub.current.is_some())
         && stub.current.is_none_or(|pid| target.current == pid)

@@ -2,7 +2,7 @@
 //! stretch, ordinary steps, a text step, ordinary steps. `tests/protected_calls.py` makes such calls
 //! from a description of its own:
 //!
-//!     python3 tests/protected_calls.py rust/reference/target/release/examples/protected_calls
+//!     python3 tests/protected_calls.py rust/target/release/examples/protected_calls
 
 use reference::{body_length, Session, Stub, BLOCK};
 use std::io::{self, Read, Write};
