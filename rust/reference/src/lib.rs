@@ -1,6 +1,7 @@
 //! An independent reference of the debug stub that document 01 describes, with requests Two (a
 //! breakpoint survives a continue), Three (the text dialect), Five (a protected stretch) and Seven (all
-//! elements share 128 places) of 02, and of the calls that document 02 adds.
+//! elements share 128 places) of 02, and of the calls that document 02 adds: image differences (One),
+//! text packets, frames (Nine) and patches (Twelve).
 //!
 //! It is written from the papers alone and shares nothing with the product. The stub lives in a
 //! [`Stub`]; memory and the register area are lent to every step. A step is refused by a
@@ -17,6 +18,7 @@ pub mod frame;
 mod image;
 mod list;
 mod message;
+pub mod patch;
 mod places;
 mod program;
 mod record;
