@@ -282,7 +282,7 @@ impl Maker<'_> {
         let (last, one) = (self.plain.len() - 1, self.rng.index(self.plain.len()));
         let share = self.rng.pick(&[2, 10, 40, 80]);
         let mut wanted = self.plain.clone();
-        for at in 0..wanted.len() {
+        for (at, byte) in wanted.iter_mut().enumerate() {
             let differs = match images {
                 Images::Equal => false,
                 Images::One => at == one,
@@ -292,7 +292,7 @@ impl Maker<'_> {
                 _ => self.rng.chance(share),
             };
             if differs && !self.is_protected(at) {
-                wanted[at] ^= 1 + self.rng.byte() % 255;
+                *byte ^= 1 + self.rng.byte() % 255;
             }
         }
         wanted
