@@ -88,6 +88,7 @@ static MASK: LazyLock<Record> = LazyLock::new(|| {
     let mut mask = Record::zeroed();
     let ffi::Record { target, places } = mask.raw_mut();
     (target.base, target.size, target.count) = (!0, !0, !0);
+    (target.protected_offset, target.protected_length) = (!0, !0);
     for process in &mut target.processes {
         (process.pid, process.address) = (!0, !0);
         (process.state, process.wanted) = (!0, !0);
