@@ -209,7 +209,7 @@ pub fn numbers(list: &mut [Run]) -> &mut [u32] {
 
 /// Writes a text packet; answers as the archive does.
 #[must_use]
-pub fn text_write(packet: TextPacket, buffer: &mut [u8]) -> TextWritten {
+pub fn text_encode(packet: TextPacket, buffer: &mut [u8]) -> TextWritten {
     let (buffer, length) = lent(buffer);
     // SAFETY: The pointer and the length come from one reference, and nobody else has what it lends.
     // The function always returns, does not unwind and keeps no pointer.
@@ -218,7 +218,7 @@ pub fn text_write(packet: TextPacket, buffer: &mut [u8]) -> TextWritten {
 
 /// Reads a text packet; answers as the archive does.
 #[must_use]
-pub fn text_read(bytes: &[u8]) -> TextFound {
+pub fn text_decode(bytes: &[u8]) -> TextFound {
     let (bytes, length) = shared(bytes);
     // SAFETY: The pointer and the length come from one reference, taken as `const`. The function
     // always returns, does not unwind and keeps no pointer.

@@ -64,7 +64,7 @@ pub use image::{differences, NotCompared};
 pub use message::{Message, Reason};
 pub use refusal::Refusal;
 pub use sanirvoq_sys::ffi::{FrameReader, Run};
-pub use sanirvoq_sys::{call, ffi, Element, BLOCK, MESSAGE};
+pub use sanirvoq_sys::{call, ffi, Element, RecordWords, BLOCK, MESSAGE, WORDS};
 pub use stub::{Process, Served, Setup, Stub, Verdict};
 pub use text::{NotText, TextPacket};
 pub use text_step::{Errno, Space, TextReply, TextRequest, TextServed};

@@ -248,7 +248,7 @@ impl Stub {
     ) -> Result<TextReply, Refusal> {
         let (mut text, mut reply) = ([0; TEXT], [0; TEXT]);
         // Its buffer is long enough and its letter in the range, so it is proved to be written.
-        let written = call::text_write(TextPacket::from(request).into(), &mut text);
+        let written = call::text_encode(TextPacket::from(request).into(), &mut text);
         let request = &text[..written.filled as usize];
         self.text(memory, registers, request, &mut reply).map(|served| served.reply())
     }
