@@ -26,8 +26,8 @@
  * and a call is not made from an interrupt that came during another call with the same record. Calls with different
  * records and buffers may run at once.
  *
- * Stack. A step takes at most 1,568 bytes on x86-64, as measured (docs/PERFORMANCE.md); no theorem bounds it. The calls
- * that need no record take less.
+ * Stack. Lend a call 2,048 bytes: a step takes less, as measured (docs/PERFORMANCE.md has the figures), and the calls
+ * that need no record less again. No theorem bounds it.
  *
  * x86-64. The archive is compiled as for user space. It uses the red zone, the 128 bytes below the stack pointer, so
  * an interrupt that comes during a call must run on another stack (an IST entry), or interrupts are off. It uses the

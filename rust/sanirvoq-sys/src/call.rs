@@ -100,6 +100,7 @@ impl Kind {
 /// Memory and registers are `&mut` in every step. The steps that change neither are proved to leave
 /// them equal, which is less than to write nothing: over a shared slice even a write of the byte
 /// that is there already would be a race with other readers.
+#[derive(Debug)]
 pub struct Lent<'a> {
     /// The record.
     pub record: &'a mut Record,

@@ -8,7 +8,7 @@
 //! `build.rs` says where the archive is looked for, and what is so where there is none.
 
 #![no_std]
-#![deny(missing_docs, unsafe_op_in_unsafe_fn)]
+#![deny(missing_debug_implementations, missing_docs, unsafe_op_in_unsafe_fn)]
 
 pub mod call;
 pub mod ffi;
