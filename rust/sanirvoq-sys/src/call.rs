@@ -107,6 +107,10 @@ pub struct Lent<'a> {
     pub memory: &'a mut [u8],
     /// The register area.
     pub registers: &'a mut [u8],
+    /// The first address of a setup's protected stretch.
+    pub from: u64,
+    /// The first address behind it.
+    pub to: u64,
     /// The process of an event.
     pub pid: u32,
     /// The value of a state event.
@@ -122,7 +126,7 @@ impl Lent<'_> {
     #[must_use]
     #[inline(always)]
     pub fn call(self, kind: Kind) -> u32 {
-        let Self { record, memory, registers, pid, value, input, reply } = self;
+        let Self { record, memory, registers, from, to, pid, value, input, reply } = self;
         let target = &raw mut record.target;
         let places = record.places.as_mut_ptr();
         let (memory, memory_length) = lent(memory);
@@ -157,12 +161,8 @@ impl Lent<'_> {
                     memory_length,
                     registers,
                     registers_length,
-                    pid,
-                    value,
-                    input,
-                    input_length,
-                    reply,
-                    reply_length,
+                    from,
+                    to,
                 ),
             }
         }
