@@ -1,14 +1,17 @@
 -- How long a call of a text step is, and what it answers, by what its bytes are. Assumes nothing.
 use mathlib.Core.Path.{_≡_, refl, sym, ap, _∙_}
-use mathlib.Core.Bool.{Bool, true, false, _&&_}
+use mathlib.Core.Bool.{Bool, true, false, _&&_, _||_}
 use mathlib.Core.List.{List, [], _∷_}
-use Prim.Native.Nat.{ℕ, _+_, _<_, _≤_}
+use Prim.Native.Nat.{ℕ, _+_, _*_, _<_, _≤_}
 use native.Mathlib.Omega.{arith}
 use borrow.Author.Tests.{lt-ltb, le-ltb, le-leb, lt-leb, leb-true, eq-eqb, ne-eqb}
-use lib.Dec.{leb}
+use lib.Dec.{leb, ltb}
 use lib.ListN.{length, getD, set, take, drop, replicate}
-use Rattle.common.proofs.Cases.{on-less}
-use Rattle.common.proofs.Same.{and-both}
+use Rattle.common.proofs.Cases.{on-less, on-test}
+use Rattle.common.proofs.Same.{and-both, true-or-false}
+use Rattle.rules.specs.Outcome.{World}
+use Rattle.program_run.specs.Written.{Writes as Puts}
+use Rattle.calls_run.specs.declared.Answered.{Answered}
 use Rattle.calls_run.specs.Format.{answerMost, output}
 use Rattle.calls_run.specs.Written.{Writes, Answers}
 use Rattle.calls_run.proofs.Words.{writes-front}
@@ -16,7 +19,7 @@ use Rattle.calls_text.specs.Format.{bufferFill}
 use Rattle.calls_frame.specs.Format.{callSize as otherSize, answerWithin as otherAnswer}
 use Rattle.calls_step.specs.declared.Lengths.{Lengths}
 use Rattle.calls_step.specs.Format.{stepKind, headBytes, stepHeld, isStep, lengthsOf, areHeld, stepSize, callSize}
-use Rattle.calls_step.specs.Format.{sessionBytes, workedBegin, stepAnswer, answerWithin}
+use Rattle.calls_step.specs.Format.{sessionBytes, sessionAnswer, workedBegin, stepAnswer, sessionWithin, answerWithin}
 
 -- ---- lengths
 
@@ -101,6 +104,16 @@ module _ (call : List ℕ) where
   has-head w =
       on-less (length call) headBytes (λ l. absurd (omega (arith, head-cut l))) (λ l. l)
 
+  pub has-all : (l : Lengths) → l ≡ lengthsOf call → areHeld (lengthsOf call) ≡ true → stepSize call ≤ length call
+      → headBytes + l .text + l .before + l .after ≤ length call
+  has-all l e h w = rw e (omega (arith, all-held (has-head w) h, w))
+
+  pub size-few : stepSize call ≤ headBytes + 3 * stepHeld
+  size-few =
+      on-less (length call) headBytes (λ l. omega (arith, head-cut l))
+      (λ g. on-test (areHeld (lengthsOf call)) (λ h. omega (arith, all-held g h, held-facts (lengthsOf call) h))
+      (λ h. omega (arith, not-held h)))
+
   pub size-step : isStep call ≡ true → stepSize call ≡ callSize call
   unfolding callSize
   size-step e = rw e
@@ -115,48 +128,89 @@ module _ (call : List ℕ) where
 
   -- ---- what it writes
 
-  pub writes-step : (l : Lengths) → l ≡ lengthsOf call → (n : ℕ) (before after : List ℕ)
-      → Writes
-      (sessionBytes workedBegin (take (l .before) (drop (headBytes + l .text) call))
-      (take (l .text) (drop headBytes call)) (take (l .after) (drop (headBytes + l .text + l .before) call))
-      (replicate (l .room) bufferFill))
+  pub writes-session : (w : World) (l : Lengths) → l ≡ lengthsOf call → (n : ℕ) (before after : List ℕ)
+      → Puts
+      (sessionBytes w (take (l .before) (drop (headBytes + l .text) call)) (take (l .text) (drop headBytes call))
+      (take (l .after) (drop (headBytes + l .text + l .before) call)) (replicate (l .room) bufferFill))
       n before after
+      → Puts (sessionAnswer w call) n before after
+  unfolding sessionAnswer
+  writes-session w l e n before after o = rw e at o
+
+  pub writes-worked : (n : ℕ) (before after : List ℕ) → Writes (sessionAnswer workedBegin call) n before after
       → Writes (stepAnswer call) n before after
   unfolding stepAnswer
-  writes-step l e n before after o = rw e at o
+  writes-worked n before after o = o
 
-  -- ---- what it answers
+  -- ---- whether a session is made, and what it answers
 
-  module _ (t : isStep call ≡ true) (before : List ℕ) where
+  module _ (before bytes : List ℕ) where
     nothing : Answers (output [] false) (record { filled = 0; more = false }) before before
     nothing = record { writes = record { filled = refl; fits = omega arith; buffer = refl }; more = refl }
 
     pub no-room : length before < answerMost
-        → Answers (answerWithin call (length before)) (record { filled = 0; more = false }) before before
-    unfolding answerWithin
-    no-room h = rw (t, lt-ltb (length before) answerMost h) nothing
+        → Answers (sessionWithin call (length before) bytes) (record { filled = 0; more = false }) before before
+    unfolding sessionWithin
+    no-room h = rw (lt-ltb (length before) answerMost h) nothing
 
     module _ (r : answerMost ≤ length before) where
       pub cut : length call < stepSize call
-          → Answers (answerWithin call (length before)) (record { filled = 0; more = false }) before before
-      unfolding answerWithin
-      cut h =
-          rw (t, le-ltb (length before) answerMost r, ← (size-step t), lt-ltb (length call) (stepSize call) h)
-          nothing
+          → Answers (sessionWithin call (length before) bytes) (record { filled = 0; more = false }) before before
+      unfolding sessionWithin
+      cut h = rw (le-ltb (length before) answerMost r, lt-ltb (length call) (stepSize call) h) nothing
 
       module _ (w : stepSize call ≤ length call) where
         pub refuses : areHeld (lengthsOf call) ≡ false
-            → Answers (answerWithin call (length before)) (record { filled = 1; more = false }) before
+            → Answers (sessionWithin call (length before) bytes) (record { filled = 1; more = false }) before
             (set before 0 0xff)
-        unfolding answerWithin
+        unfolding sessionWithin
         refuses h =
-            rw (t, le-ltb (length before) answerMost r, ← (size-step t), le-ltb (length call) (stepSize call) w, h)
+            rw (le-ltb (length before) answerMost r, le-ltb (length call) (stepSize call) w, h)
             (record { writes = writes-front (0xff ∷ []) before _ 1 refl (omega arith) refl; more = refl })
 
-        pub answered : areHeld (lengthsOf call) ≡ true → (n : ℕ) (after : List ℕ)
-            → Writes (stepAnswer call) n before after
-            → Answers (answerWithin call (length before)) (record { filled = n; more = true }) before after
-        unfolding answerWithin
-        answered h n after o =
-            rw (t, le-ltb (length before) answerMost r, ← (size-step t), le-ltb (length call) (stepSize call) w, h)
-            (record { writes = o; more = refl })
+        pub makes : areHeld (lengthsOf call) ≡ true → sessionWithin call (length before) bytes ≡ output bytes true
+        unfolding sessionWithin
+        makes h = rw (le-ltb (length before) answerMost r, le-ltb (length call) (stepSize call) w, h)
+
+  -- a session is made, and nothing is written yet
+  pub record Made (before after : List ℕ) : Type 0 where
+    pub room : answerMost ≤ length before
+    pub whole : stepSize call ≤ length call
+    pub held : areHeld (lengthsOf call) ≡ true
+    pub same : after ≡ before
+
+  module _ (r : Answered) (before after : List ℕ) (o : Answers (sessionWithin call (length before) []) r before after)
+      where
+    pub made : r .more ≡ true → Made before after
+    made e =
+        let m : sessionWithin call (length before) [] .more ≡ true = sym (o .more) ∙ e in
+        on-less (length before) answerMost (λ l. true-or-false (no-room before [] l .more ∙ m))
+        (λ g. on-less (length call) (stepSize call) (λ l. true-or-false (cut before [] g l .more ∙ m))
+        (λ w. on-test (areHeld (lengthsOf call))
+        (λ h.
+        let x : Writes [] (r .filled) before after = rw (makes before [] g w h) at (o .writes) in
+        record { room = g; whole = w; held = h; same = x .buffer ∙ rw (x .filled) })
+        (λ h. true-or-false (refuses before [] g w h .more ∙ m))))
+
+    -- one that is not made answers so, whatever it would write
+    pub not-made : r .more ≡ false → (bytes : List ℕ) → Answers (sessionWithin call (length before) bytes) r before after
+    unfolding sessionWithin
+    not-made e bytes =
+        on-test (ltb (length before) answerMost || ltb (length call) (stepSize call)) (λ t. rw t (rw t at o))
+        (λ t. on-test (areHeld (lengthsOf call))
+        (λ h. let x : Answers (output [] true) r before after = rw (t, h) at o in
+        true-or-false (sym e ∙ x .more))
+        (λ h. rw (t, h) (rw (t, h) at o)))
+
+  pub answered : (before middle : List ℕ) → Made before middle → (bytes : List ℕ) (n : ℕ) (after : List ℕ)
+      → Writes bytes n middle after
+      → Answers (sessionWithin call (length before) bytes) (record { filled = n; more = true }) before after
+  answered before middle m bytes n after o =
+      rw (makes before bytes (m .room) (m .whole) (m .held)) (record { writes = rw (m .same) at o; more = refl })
+
+  -- a call of this kind
+  pub step-answers : isStep call ≡ true → (r : Answered) (before after : List ℕ)
+      → Answers (sessionWithin call (length before) (stepAnswer call)) r before after
+      → Answers (answerWithin call (length before)) r before after
+  unfolding answerWithin
+  step-answers e r before after o = rw e o

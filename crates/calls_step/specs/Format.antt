@@ -9,6 +9,7 @@ use Rattle.memory.specs.Head.{house}
 use Rattle.rules.specs.Outcome.{World, shown}
 use Rattle.rules.specs.Step.{setupBy, textStepOf}
 use Rattle.rules.specs.Worked.{workedSetup}
+use Rattle.program_run.specs.Encoding.{stepMost, answerMost as shownMost}
 use Rattle.program_run.specs.Run.{runOf}
 use Rattle.calls_run.specs.Format.{wordBytes, answerMost, Output, output}
 use Rattle.calls_text.specs.Format.{bufferFill}
@@ -30,6 +31,14 @@ headBytes = 1 + 4 * wordBytes
 -- the longest buffer, text and steps that the program holds
 abbrev pub stepHeld : ℕ
 stepHeld = 1024
+
+-- the largest window that it lends
+abbrev pub windowHeld : ℕ
+windowHeld = 64
+
+-- the most that a session writes: the steps before, the text step, the steps after, the window
+abbrev pub sessionMost : ℕ
+sessionMost = stepMost * stepHeld + (1 + stepHeld + shownMost + (stepMost * stepHeld + windowHeld))
 
 -- ---- a call
 
@@ -87,21 +96,25 @@ sessionBytes w before text after reply =
     let q = runOf w before in
     q .output ++ textBytes (q .after) text after reply
 
+-- of a call; the reply buffer is lent full of ee
+unfoldable pub sessionAnswer : World → List ℕ → List ℕ
+sessionAnswer w call =
+    sessionBytes w (beforeOf call) (textOf call) (afterOf call) (replicate (lengthsOf call .room) bufferFill)
+
 -- "the worked setup": the record, memory and register area that it leaves
 abbrev pub workedBegin : World
 workedBegin = setupBy workedSetup .after
 
--- over it; the reply buffer is lent full of ee
+-- over it
 unfoldable pub stepAnswer : List ℕ → List ℕ
-stepAnswer call =
-    sessionBytes workedBegin (beforeOf call) (textOf call) (afterOf call)
-    (replicate (lengthsOf call .room) bufferFill)
+stepAnswer call = sessionAnswer workedBegin call
 
 -- "Input that ends inside a call ends it; a length that is not held writes ff and ends it"; with a buffer that is too
--- short for the longest answer of any kind nothing is written
+-- short for the longest answer of any kind nothing is written; else a session is made, and writes these bytes
+unfoldable pub sessionWithin : List ℕ → ℕ → List ℕ → Output
+sessionWithin call room bytes =
+    cond (ltb room answerMost || ltb (length call) (stepSize call)) (output [] false)
+    (cond (areHeld (lengthsOf call)) (output bytes true) (output (0xff ∷ []) false))
+
 unfoldable pub answerWithin : List ℕ → ℕ → Output
-answerWithin call room =
-    cond (isStep call)
-    (cond (ltb room answerMost || ltb (length call) (callSize call)) (output [] false)
-    (cond (areHeld (lengthsOf call)) (output (stepAnswer call) true) (output (0xff ∷ []) false)))
-    (otherAnswer call room)
+answerWithin call room = cond (isStep call) (sessionWithin call room (stepAnswer call)) (otherAnswer call room)

@@ -8,6 +8,7 @@ use target::Target;
 ghost use mathlib.Core.Path.{_≡_};
 ghost use mathlib.Core.Bool.{true};
 ghost use Prim.Native.Nat.{_+_, _*_, _≤_};
+ghost use mathlib.Core.List.{[]};
 ghost use lib.ListN.{length, replicate};
 ghost use Rattle.memory.specs.Head.{house};
 ghost use Rattle.target.specs.View.{viewOf};
@@ -18,9 +19,9 @@ ghost use Rattle.program_run.specs.Written.{Writes as Puts, Steps};
 ghost use Rattle.calls_run.specs.Format.{answerMost, callMost};
 ghost use Rattle.calls_run.specs.Written.{Writes, Answers};
 ghost use Rattle.calls_text.specs.Format.{bufferFill};
-ghost use Rattle.calls_step.specs.Format.{headBytes, stepHeld, isStep, lengthsOf, areHeld, stepSize, callSize};
-ghost use Rattle.calls_step.specs.Format.{endingBytes, textBytes, sessionBytes, workedBegin, stepAnswer};
-ghost use Rattle.calls_step.specs.Format.{answerWithin};
+ghost use Rattle.calls_step.specs.Format.{headBytes, stepHeld, windowHeld, sessionMost, isStep, lengthsOf};
+ghost use Rattle.calls_step.specs.Format.{areHeld, stepSize, callSize, endingBytes, textBytes, sessionBytes};
+ghost use Rattle.calls_step.specs.Format.{sessionAnswer, stepAnswer, sessionWithin, answerWithin};
 
 // The kind of a call that makes a text step.
 const STEP: u8 = 10;
@@ -75,7 +76,7 @@ fn held(l: Lengths) -> bool
 }
 
 // How many bytes a call of this kind takes.
-fn step_size(call: &[u8]) -> usize
+pub fn step_size(call: &[u8]) -> usize
     ensures { λ r. ⌜ (r ≡ stepSize (now (call .entry))) × (r ≤ callMost) ⌝ }
 {
     if call.len() < HEAD {
@@ -193,32 +194,6 @@ fn run_all(
     n + run_text(next, places, mem, regs, text, after, reply, &mut out[n..])
 }
 
-// The same over the worked setup.
-fn session(before: &[u8], text: &[u8], after: &[u8], reply: &mut [u8], out: &mut [u8]) -> usize
-    requires { ⌜ (length (now before) ≤ stepHeld) × (length (now after) ≤ stepHeld) × (length (now reply) ≤ stepHeld)
-        × (answerMost ≤ length (now out)) ⌝ }
-    ensures { λ r. ⌜ Writes
-        (sessionBytes workedBegin (now (before .entry)) (now (text .entry)) (now (after .entry)) (now (reply .entry)))
-        r (now (out .entry)) (now (out .exit)) ⌝ }
-{
-    let begin = program_io::start();
-    let mut mem = begin.mem;
-    let mut regs = begin.regs;
-    let t = begin.target;
-    let mut places = [0u32; Table::WORDS];
-    run_all(
-        t,
-        &mut places,
-        &mut mem,
-        &mut regs,
-        before,
-        text,
-        after,
-        reply,
-        out,
-    )
-}
-
 // A buffer full of ee: a call is lent as much of it as it asks for.
 fn full() -> [u8; HELD]
     ensures { λ r. ⌜ r ≡ replicate stepHeld bufferFill ⌝ }
@@ -226,18 +201,28 @@ fn full() -> [u8; HELD]
     [FILL; HELD]
 }
 
-// A call that is whole and held: lends it a buffer.
-fn lend(call: &[u8], l: Lengths, out: &mut [u8]) -> usize
-    requires { ⌜ (l ≡ lengthsOf (now call)) × (areHeld l ≡ true)
-        × (headBytes + l .text + l .before + l .after ≤ length (now call)) × (answerMost ≤ length (now out)) ⌝ }
-    ensures { λ r. ⌜ Writes (stepAnswer (now (call .entry))) r (now (out .entry)) (now (out .exit)) ⌝ }
+// The session of a call that is whole and held, over a record, a pool of zeros and the buffers lent to it. It reads
+// what stands behind the kind byte only.
+pub fn session(t: Target, mem: &mut [u8], regs: &mut [u8], call: &[u8], out: &mut [u8]) -> usize
+    requires { ⌜ (areHeld (lengthsOf (now call)) ≡ true) × (stepSize (now call) ≤ length (now call))
+        × (length (now mem) ≤ windowHeld) × (sessionMost ≤ length (now out)) ⌝ }
+    ensures { λ r. ⌜ Puts
+        (sessionAnswer (world (viewOf t (replicate 256 0)) (now (mem .entry)) (now (regs .entry))) (now (call .entry)))
+        r (now (out .entry)) (now (out .exit)) ⌝ }
+    ensures { λ r. ⌜ r ≤ length (now (out .entry)) ⌝ }
 {
+    let l = lengths_of(call);
     let room = l.room;
     let from = HEAD + l.text;
     let to = from + l.before;
     let end = to + l.after;
     let mut buffer = full();
-    session(
+    let mut places = [0u32; Table::WORDS];
+    run_all(
+        t,
+        &mut places,
+        mem,
+        regs,
         &call[from..to],
         &call[HEAD..from],
         &call[to..end],
@@ -246,10 +231,22 @@ fn lend(call: &[u8], l: Lengths, out: &mut [u8]) -> usize
     )
 }
 
-// Answers a call of this kind: writes its answer to the front of the output.
-fn answer_step(call: &[u8], out: &mut [u8]) -> Answered
-    requires { ⌜ isStep (now call) ≡ true ⌝ }
-    ensures { λ r. ⌜ Answers (answerWithin (now (call .entry)) (length (now (out .entry))))
+// The same over the worked setup.
+fn worked(call: &[u8], out: &mut [u8]) -> usize
+    requires { ⌜ (areHeld (lengthsOf (now call)) ≡ true) × (stepSize (now call) ≤ length (now call))
+        × (answerMost ≤ length (now out)) ⌝ }
+    ensures { λ r. ⌜ Writes (stepAnswer (now (call .entry))) r (now (out .entry)) (now (out .exit)) ⌝ }
+{
+    let begin = program_io::start();
+    let mut mem = begin.mem;
+    let mut regs = begin.regs;
+    let t = begin.target;
+    session(t, &mut mem, &mut regs, call, out)
+}
+
+// Whether a session is made: more is true, and nothing is written yet; else this is its answer.
+pub fn checked(call: &[u8], out: &mut [u8]) -> Answered
+    ensures { λ r. ⌜ Answers (sessionWithin (now (call .entry)) (length (now (out .entry))) [])
         r (now (out .entry)) (now (out .exit)) ⌝ }
 {
     if out.len() < calls_run::ANSWER_MOST {
@@ -264,15 +261,30 @@ fn answer_step(call: &[u8], out: &mut [u8]) -> Answered
             more: false,
         };
     }
-    let l = lengths_of(call);
-    if !held(l) {
+    if !held(lengths_of(call)) {
         out[0] = NOT_HELD;
         return Answered {
             filled: 1,
             more: false,
         };
     }
-    let filled = lend(call, l, out);
+    Answered {
+        filled: 0,
+        more: true,
+    }
+}
+
+// Answers a call of this kind: writes its answer to the front of the output.
+fn answer_step(call: &[u8], out: &mut [u8]) -> Answered
+    requires { ⌜ isStep (now call) ≡ true ⌝ }
+    ensures { λ r. ⌜ Answers (answerWithin (now (call .entry)) (length (now (out .entry))))
+        r (now (out .entry)) (now (out .exit)) ⌝ }
+{
+    let first = checked(call, out);
+    if !first.more {
+        return first;
+    }
+    let filled = worked(call, out);
     Answered { filled, more: true }
 }
 
