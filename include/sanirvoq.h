@@ -262,8 +262,8 @@ SANIRVOQ_CHECKED static inline uint8_t sanirvoq_second(uint32_t result) { return
 /* A setup. Takes base, size, count and the pids and addresses of the first count processes from the target, the
  * protected stretch from the last two arguments, and makes the rest of the target. It has no places, for none is held
  * then. Numbers 0, 1, 2. */
-SANIRVOQ_CHECKED uint32_t sanirvoq_step_setup(struct sanirvoq_target *target, uint8_t *memory,
-                                              sanirvoq_length memory_length, uint8_t *registers,
+SANIRVOQ_CHECKED uint32_t sanirvoq_step_setup(struct sanirvoq_target *target, const uint8_t *memory,
+                                              sanirvoq_length memory_length, const uint8_t *registers,
                                               sanirvoq_length registers_length, uint64_t protected_from,
                                               uint64_t protected_to);
 
