@@ -16,8 +16,6 @@
 //!   steps reached
 //! - [`run`] and [`shrink`]: the whole run, and the short list where the sides differ
 
-#![deny(unsafe_code)]
-
 pub mod archive;
 pub mod book;
 pub mod difference;

@@ -1,7 +1,7 @@
 //! The calls into the archive, over references. Each answers as the archive does, in numbers.
 
 use crate::ffi::{self, Comparison, Fields, Found, FrameFed, FrameReader, Length, Record, Run};
-use crate::ffi::{TextFound, TextPacket, TextWritten};
+use crate::ffi::{Target, TextFound, TextPacket, TextWritten};
 use crate::{BLOCK, MESSAGE};
 use core::slice;
 
@@ -97,9 +97,10 @@ impl Kind {
 
 /// What a step is lent. A step leaves what it does not use as it is.
 ///
-/// Memory and registers are `&mut` in every step. The steps that change neither are proved to leave
-/// them equal, which is less than to write nothing: over a shared slice even a write of the byte
-/// that is there already would be a race with other readers.
+/// Memory and registers are `&mut` in every step but a setup, which takes them as shared. Those that
+/// change neither are proved to leave them equal, which is less than to write nothing: over a shared
+/// slice even a write of the byte that is there already would be a race with other readers.
+#[derive(Debug)]
 pub struct Lent<'a> {
     /// The record.
     pub record: &'a mut Record,
@@ -127,6 +128,9 @@ impl Lent<'_> {
     #[inline(always)]
     pub fn call(self, kind: Kind) -> u32 {
         let Self { record, memory, registers, from, to, pid, value, input, reply } = self;
+        let Some(function) = kind.function() else {
+            return setup(&mut record.target, memory, registers, from, to);
+        };
         let target = &raw mut record.target;
         let places = record.places.as_mut_ptr();
         let (memory, memory_length) = lent(memory);
@@ -140,32 +144,42 @@ impl Lent<'_> {
         // call returns, so the borrow rules keep them apart and others away. Any bytes are a
         // record. A step always returns, does not unwind and keeps no pointer.
         unsafe {
-            match kind.function() {
-                Some(function) => function(
-                    target,
-                    places,
-                    memory,
-                    memory_length,
-                    registers,
-                    registers_length,
-                    pid,
-                    value,
-                    input,
-                    input_length,
-                    reply,
-                    reply_length,
-                ),
-                None => ffi::sanirvoq_step_setup(
-                    target,
-                    memory,
-                    memory_length,
-                    registers,
-                    registers_length,
-                    from,
-                    to,
-                ),
-            }
+            function(
+                target,
+                places,
+                memory,
+                memory_length,
+                registers,
+                registers_length,
+                pid,
+                value,
+                input,
+                input_length,
+                reply,
+                reply_length,
+            )
         }
+    }
+}
+
+/// A setup by what the target holds, with a protected stretch from an address to before another; its
+/// result.
+#[must_use]
+#[inline(always)]
+pub fn setup(target: &mut Target, memory: &[u8], registers: &[u8], from: u64, to: u64) -> u32 {
+    let (memory, memory_length) = shared(memory);
+    let (registers, registers_length) = shared(registers);
+    // SAFETY: As for a step; memory and registers are taken as `const`.
+    unsafe {
+        ffi::sanirvoq_step_setup(
+            target,
+            memory,
+            memory_length,
+            registers,
+            registers_length,
+            from,
+            to,
+        )
     }
 }
 
@@ -209,7 +223,7 @@ pub fn numbers(list: &mut [Run]) -> &mut [u32] {
 
 /// Writes a text packet; answers as the archive does.
 #[must_use]
-pub fn text_write(packet: TextPacket, buffer: &mut [u8]) -> TextWritten {
+pub fn text_encode(packet: TextPacket, buffer: &mut [u8]) -> TextWritten {
     let (buffer, length) = lent(buffer);
     // SAFETY: The pointer and the length come from one reference, and nobody else has what it lends.
     // The function always returns, does not unwind and keeps no pointer.
@@ -218,7 +232,7 @@ pub fn text_write(packet: TextPacket, buffer: &mut [u8]) -> TextWritten {
 
 /// Reads a text packet; answers as the archive does.
 #[must_use]
-pub fn text_read(bytes: &[u8]) -> TextFound {
+pub fn text_decode(bytes: &[u8]) -> TextFound {
     let (bytes, length) = shared(bytes);
     // SAFETY: The pointer and the length come from one reference, taken as `const`. The function
     // always returns, does not unwind and keeps no pointer.

@@ -23,7 +23,7 @@
 //! let process = |pid, address| Process { pid, address };
 //! let processes = [process(5, 0x8000_1000), process(7, 0x8000_2000)];
 //! let setup = Setup::new(0x1000, 64, &processes).protecting(0x1038..0x103c);
-//! let mut stub = Stub::setup(&setup, &mut memory, &mut registers)?;
+//! let mut stub = Stub::setup(&setup, &memory, &registers)?;
 //!
 //! let request = [2, 0, 0, 0x10, 0x04, 4, 0, 0, 0, 0];
 //! let mut reply = [0; MESSAGE];
@@ -37,16 +37,14 @@
 //! Buffers that overlap do not compile:
 //!
 //! ```compile_fail
-//! # use sanirvoq::{Process, Setup, Stub};
-//! # let processes = [Process { pid: 5, address: 0 }];
-//! let mut memory = [0; 136];
-//! let setup = Setup::new(0x1000, 136, &processes);
-//! let stub = Stub::setup(&setup, &mut memory, &mut memory);
+//! # let (mut stub, mut memory) = (sanirvoq::Stub::default(), [0; 136]);
+//! # let (request, mut reply) = ([0; 10], [0; 10]);
+//! let done = stub.request(&mut memory, &mut memory, &request, &mut reply);
 //! ```
 
 #![no_std]
 #![forbid(unsafe_code)]
-#![deny(missing_docs)]
+#![deny(missing_debug_implementations, missing_docs)]
 #![warn(clippy::must_use_candidate)]
 #![cfg_attr(not(test), deny(clippy::expect_used, clippy::panic, clippy::unreachable))]
 #![cfg_attr(not(test), deny(clippy::unwrap_used))]
@@ -64,7 +62,7 @@ pub use image::{differences, NotCompared};
 pub use message::{Message, Reason};
 pub use refusal::Refusal;
 pub use sanirvoq_sys::ffi::{FrameReader, Run};
-pub use sanirvoq_sys::{call, ffi, Element, BLOCK, MESSAGE};
+pub use sanirvoq_sys::{call, ffi, Element, RecordWords, BLOCK, MESSAGE, WORDS};
 pub use stub::{Process, Served, Setup, Stub, Verdict};
 pub use text::{NotText, TextPacket};
 pub use text_step::{Errno, Space, TextReply, TextRequest, TextServed};

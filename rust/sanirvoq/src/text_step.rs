@@ -184,7 +184,7 @@ impl<'a> TextServed<'a> {
     /// What the text says.
     pub fn reply(&self) -> TextReply {
         // The text is proved to be a packet's.
-        let response = call::text_read(self.text).packet.fourth;
+        let response = call::text_decode(self.text).packet.fourth;
         if self.carried_out {
             Ok(response)
         } else {
