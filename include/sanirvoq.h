@@ -5,11 +5,12 @@
  * processes, one call a time, and does what the answer says. docs/PROTOCOL.md describes the line, examples/kernel.c is
  * a whole session.
  *
- * Link libsanirvoq.a: `rt staticlib sanirvoq` writes it for x86-64 (System V calling convention). Take header and
+ * Link libsanirvoq.a. `rt staticlib sanirvoq` writes it for x86-64 (System V calling convention), and
+ * tools/build_archives.sh, from the same proved crate, for rv32imac (ilp32) and rv64imac (lp64) too. Take header and
  * archive of one commit: the archive cannot tell which header a kernel was compiled with.
  *
  * The header needs no C library: it includes stddef.h and stdint.h, which every freestanding compiler has. The archive
- * calls memcpy, and nothing else, of the program that links it; the compiler may do so too.
+ * calls memcpy, on RISC-V memset too, and nothing else of the program that links it; the compiler may do so as well.
  *
  * The kernel owns everything: the record, the memory window and the register area. The stub allocates nothing, keeps
  * no pointer and no state of its own, always returns, and makes no system call. What it writes to is what a call lends
@@ -26,8 +27,8 @@
  * and a call is not made from an interrupt that came during another call with the same record. Calls with different
  * records and buffers may run at once.
  *
- * Stack. Lend a call 2,048 bytes: a step takes less, as measured (docs/PERFORMANCE.md has the figures), and the calls
- * that need no record less again. No theorem bounds it.
+ * Stack. Have 2,048 bytes for a call on x86-64 and 4,096 on RISC-V: a step takes less, as measured
+ * (docs/PERFORMANCE.md has the figures), and the calls that need no record less again. No theorem bounds it.
  *
  * x86-64. The archive is compiled as for user space. It uses the red zone, the 128 bytes below the stack pointer, so
  * an interrupt that comes during a call must run on another stack (an IST entry), or interrupts are off. It uses the
@@ -262,8 +263,8 @@ SANIRVOQ_CHECKED static inline uint8_t sanirvoq_second(uint32_t result) { return
 /* A setup. Takes base, size, count and the pids and addresses of the first count processes from the target, the
  * protected stretch from the last two arguments, and makes the rest of the target. It has no places, for none is held
  * then. Numbers 0, 1, 2. */
-SANIRVOQ_CHECKED uint32_t sanirvoq_step_setup(struct sanirvoq_target *target, uint8_t *memory,
-                                              sanirvoq_length memory_length, uint8_t *registers,
+SANIRVOQ_CHECKED uint32_t sanirvoq_step_setup(struct sanirvoq_target *target, const uint8_t *memory,
+                                              sanirvoq_length memory_length, const uint8_t *registers,
                                               sanirvoq_length registers_length, uint64_t protected_from,
                                               uint64_t protected_to);
 

@@ -5,7 +5,8 @@ calls_main reads calls that need no session and writes what each answers; the
 format is that of docs/CALLS.md. Kind 1 compares two images; the calls of the
 text packets, kinds 6 and 7, are made by tests/text_vectors.py, those of frames,
 kinds 8 and 9, by tests/frame_calls.py, those of text steps, kind 10, by
-tests/text_step_calls.py.
+tests/text_step_calls.py, those of sessions with a protected stretch, kind 11,
+by tests/protected_calls.py.
 
     python3 tests/calls_vectors.py           write crates/calls_main/stdin, stdout
     python3 tests/calls_vectors.py --check   compare with them, write nothing
@@ -21,6 +22,7 @@ import sys
 from pathlib import Path
 
 import frame_calls
+import protected_calls
 import stored
 import text_step_calls
 import text_vectors
@@ -203,14 +205,18 @@ def make_files():
     answers = [comparison(*case) for case in cases]
     others = [*text_vectors.cases(), *frame_calls.cases()]
     steps = [*text_step_calls.cases()]
+    sessions = [*protected_calls.cases()]
     cut = call(image(8), image(8), 2)[:-1]
     files = {
-        FOLDER / "stdin": b"".join([*(call(*case) for case in cases), *(made for made, _ in others + steps), cut]),
-        FOLDER / "stdout": b"".join([*(answer(*one) for one in answers), *(given for _, given in others + steps)]),
+        FOLDER / "stdin": b"".join([*(call(*case) for case in cases),
+                                    *(made for made, _ in others + steps + sessions), cut]),
+        FOLDER / "stdout": b"".join([*(answer(*one) for one in answers),
+                                     *(given for _, given in others + steps + sessions)]),
     }
     numbers = [number for number, _, _ in answers] + [given[0] for _, given in others]
     counts = ", ".join(f"{numbers.count(number)} number {number}" for number in sorted(set(numbers)))
-    return files, f"{len(numbers)} calls and a cut one: {counts}; {len(steps)} text steps between other steps"
+    return files, (f"{len(numbers)} calls and a cut one: {counts}; {len(steps)} text steps between other steps; "
+                   f"{len(sessions)} sessions with a protected stretch")
 
 
 if __name__ == "__main__":

@@ -85,7 +85,7 @@ fn main() -> ExitCode {
     let lacking = [runner.tally.lacking(), compared.lacking(), packets.lacking()].concat();
     if steps >= ALL_REACHED && !lacking.is_empty() {
         for name in lacking {
-            println!("never reached: {name}");
+            println!("{name}");
         }
         return ExitCode::FAILURE;
     }

@@ -1,7 +1,7 @@
 //! The calls into the archive, over references. Each answers as the archive does, in numbers.
 
 use crate::ffi::{self, Comparison, Fields, Found, FrameFed, FrameReader, Length, Record, Run};
-use crate::ffi::{TextFound, TextPacket, TextWritten};
+use crate::ffi::{Target, TextFound, TextPacket, TextWritten};
 use crate::{BLOCK, MESSAGE};
 use core::slice;
 
@@ -97,9 +97,9 @@ impl Kind {
 
 /// What a step is lent. A step leaves what it does not use as it is.
 ///
-/// Memory and registers are `&mut` in every step. The steps that change neither are proved to leave
-/// them equal, which is less than to write nothing: over a shared slice even a write of the byte
-/// that is there already would be a race with other readers.
+/// Memory and registers are `&mut` in every step but a setup, which takes them as shared. Those that
+/// change neither are proved to leave them equal, which is less than to write nothing: over a shared
+/// slice even a write of the byte that is there already would be a race with other readers.
 #[derive(Debug)]
 pub struct Lent<'a> {
     /// The record.
@@ -128,6 +128,9 @@ impl Lent<'_> {
     #[inline(always)]
     pub fn call(self, kind: Kind) -> u32 {
         let Self { record, memory, registers, from, to, pid, value, input, reply } = self;
+        let Some(function) = kind.function() else {
+            return setup(&mut record.target, memory, registers, from, to);
+        };
         let target = &raw mut record.target;
         let places = record.places.as_mut_ptr();
         let (memory, memory_length) = lent(memory);
@@ -141,32 +144,42 @@ impl Lent<'_> {
         // call returns, so the borrow rules keep them apart and others away. Any bytes are a
         // record. A step always returns, does not unwind and keeps no pointer.
         unsafe {
-            match kind.function() {
-                Some(function) => function(
-                    target,
-                    places,
-                    memory,
-                    memory_length,
-                    registers,
-                    registers_length,
-                    pid,
-                    value,
-                    input,
-                    input_length,
-                    reply,
-                    reply_length,
-                ),
-                None => ffi::sanirvoq_step_setup(
-                    target,
-                    memory,
-                    memory_length,
-                    registers,
-                    registers_length,
-                    from,
-                    to,
-                ),
-            }
+            function(
+                target,
+                places,
+                memory,
+                memory_length,
+                registers,
+                registers_length,
+                pid,
+                value,
+                input,
+                input_length,
+                reply,
+                reply_length,
+            )
         }
+    }
+}
+
+/// A setup by what the target holds, with a protected stretch from an address to before another; its
+/// result.
+#[must_use]
+#[inline(always)]
+pub fn setup(target: &mut Target, memory: &[u8], registers: &[u8], from: u64, to: u64) -> u32 {
+    let (memory, memory_length) = shared(memory);
+    let (registers, registers_length) = shared(registers);
+    // SAFETY: As for a step; memory and registers are taken as `const`.
+    unsafe {
+        ffi::sanirvoq_step_setup(
+            target,
+            memory,
+            memory_length,
+            registers,
+            registers_length,
+            from,
+            to,
+        )
     }
 }
 

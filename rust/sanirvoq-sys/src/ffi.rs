@@ -340,9 +340,9 @@ exports! {
     /// addresses to before the second.
     fn sanirvoq_step_setup(
         target: *mut Target,
-        memory: *mut u8,
+        memory: *const u8,
         memory_length: Length,
-        registers: *mut u8,
+        registers: *const u8,
         registers_length: Length,
         protected_from: u64,
         protected_to: u64,

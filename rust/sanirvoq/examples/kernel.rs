@@ -39,11 +39,11 @@ struct Kernel {
 /// The kernel's side.
 impl Kernel {
     fn set_up() -> Result<Self, Box<dyn Error>> {
-        let mut memory: Vec<u8> = (0..SIZE).collect();
+        let memory: Vec<u8> = (0..SIZE).collect();
         let mut registers = vec![0; PROCESSES.len() * BLOCK];
         let mut body = [0; FRAME_BUFFER];
         let reader = Frames::new(&mut body)?.reader();
-        let stub = Stub::setup(&setup(), &mut memory, &mut registers)?;
+        let stub = Stub::setup(&setup(), &memory, &registers)?;
         for (block, Process { pid, .. }) in registers.chunks_exact_mut(BLOCK).zip(PROCESSES) {
             // A register has 0x100 times its number, plus the pid.
             for (word, number) in block.chunks_exact_mut(4).zip(0..32).skip(1) {
@@ -350,7 +350,7 @@ impl Kernel {
         println!("The kernel puts back what lies under the other trap, and sets up anew.");
         let left_out = self.stub.put_back(&mut self.memory, BASE);
         line("put back", &format!("{left_out} breakpoint left out"));
-        self.stub.setup_in_place(&setup(), &mut self.memory, &mut self.registers)?;
+        self.stub.setup_in_place(&setup(), &self.memory, &self.registers)?;
         self.get(0x1010, 8)
     }
 }

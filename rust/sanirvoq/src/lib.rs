@@ -23,7 +23,7 @@
 //! let process = |pid, address| Process { pid, address };
 //! let processes = [process(5, 0x8000_1000), process(7, 0x8000_2000)];
 //! let setup = Setup::new(0x1000, 64, &processes).protecting(0x1038..0x103c);
-//! let mut stub = Stub::setup(&setup, &mut memory, &mut registers)?;
+//! let mut stub = Stub::setup(&setup, &memory, &registers)?;
 //!
 //! let request = [2, 0, 0, 0x10, 0x04, 4, 0, 0, 0, 0];
 //! let mut reply = [0; MESSAGE];
@@ -37,11 +37,9 @@
 //! Buffers that overlap do not compile:
 //!
 //! ```compile_fail
-//! # use sanirvoq::{Process, Setup, Stub};
-//! # let processes = [Process { pid: 5, address: 0 }];
-//! let mut memory = [0; 136];
-//! let setup = Setup::new(0x1000, 136, &processes);
-//! let stub = Stub::setup(&setup, &mut memory, &mut memory);
+//! # let (mut stub, mut memory) = (sanirvoq::Stub::default(), [0; 136]);
+//! # let (request, mut reply) = ([0; 10], [0; 10]);
+//! let done = stub.request(&mut memory, &mut memory, &request, &mut reply);
 //! ```
 
 #![no_std]
