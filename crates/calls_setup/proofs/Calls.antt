@@ -164,7 +164,8 @@ module _ (call : List ℕ) where
     made-refused n = rw (← (e []), shown-refused number _ n) (at-front _ _ _ _ stored room)
 
     pub made-session : number ≡ 0 → (m : ℕ) (part : List ℕ) → let k = set out 0 number in
-        Puts (sessionAnswer (world (viewOf t (replicate 256 0)) mem regs) (take (length call - setupBytes) (restOf call)))
+        Puts
+        (sessionAnswer (world (viewOf t (replicate 256 0)) mem regs) (take (length call - setupBytes) (restOf call)))
         m (behind k 1) part
         → 1 + m ≤ length out
         → Writes (madeBytes (setupBy (setupIn call mem regs)) (restOf call)) (1 + m) out (Joined k 1 part)

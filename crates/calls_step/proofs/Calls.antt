@@ -19,7 +19,8 @@ use Rattle.calls_text.specs.Format.{bufferFill}
 use Rattle.calls_frame.specs.Format.{callSize as otherSize, answerWithin as otherAnswer}
 use Rattle.calls_step.specs.declared.Lengths.{Lengths}
 use Rattle.calls_step.specs.Format.{stepKind, headBytes, stepHeld, isStep, lengthsOf, areHeld, stepSize, callSize}
-use Rattle.calls_step.specs.Format.{sessionBytes, sessionAnswer, workedBegin, stepAnswer, sessionWithin, answerWithin}
+use Rattle.calls_step.specs.Format.{sessionBytes, sessionAnswer, workedBegin, stepAnswer}
+use Rattle.calls_step.specs.Format.{sessionWithin, answerWithin}
 
 -- ---- lengths
 
@@ -180,27 +181,28 @@ module _ (call : List ℕ) where
     pub same : after ≡ before
 
   module _ (r : Answered) (before after : List ℕ) (o : Answers (sessionWithin call (length before) []) r before after)
-      where
-    pub made : r .more ≡ true → Made before after
-    made e =
-        let m : sessionWithin call (length before) [] .more ≡ true = sym (o .more) ∙ e in
-        on-less (length before) answerMost (λ l. true-or-false (no-room before [] l .more ∙ m))
-        (λ g. on-less (length call) (stepSize call) (λ l. true-or-false (cut before [] g l .more ∙ m))
-        (λ w. on-test (areHeld (lengthsOf call))
-        (λ h.
-        let x : Writes [] (r .filled) before after = rw (makes before [] g w h) at (o .writes) in
-        record { room = g; whole = w; held = h; same = x .buffer ∙ rw (x .filled) })
-        (λ h. true-or-false (refuses before [] g w h .more ∙ m))))
+    where
+      pub made : r .more ≡ true → Made before after
+      made e =
+          let m : sessionWithin call (length before) [] .more ≡ true = sym (o .more) ∙ e in
+          on-less (length before) answerMost (λ l. true-or-false (no-room before [] l .more ∙ m))
+          (λ g. on-less (length call) (stepSize call) (λ l. true-or-false (cut before [] g l .more ∙ m))
+          (λ w. on-test (areHeld (lengthsOf call))
+          (λ h.
+          let x : Writes [] (r .filled) before after = rw (makes before [] g w h) at (o .writes) in
+          record { room = g; whole = w; held = h; same = x .buffer ∙ rw (x .filled) })
+          (λ h. true-or-false (refuses before [] g w h .more ∙ m))))
 
-    -- one that is not made answers so, whatever it would write
-    pub not-made : r .more ≡ false → (bytes : List ℕ) → Answers (sessionWithin call (length before) bytes) r before after
-    unfolding sessionWithin
-    not-made e bytes =
-        on-test (ltb (length before) answerMost || ltb (length call) (stepSize call)) (λ t. rw t (rw t at o))
-        (λ t. on-test (areHeld (lengthsOf call))
-        (λ h. let x : Answers (output [] true) r before after = rw (t, h) at o in
-        true-or-false (sym e ∙ x .more))
-        (λ h. rw (t, h) (rw (t, h) at o)))
+      -- one that is not made answers so, whatever it would write
+      pub not-made : r .more ≡ false → (bytes : List ℕ)
+          → Answers (sessionWithin call (length before) bytes) r before after
+      unfolding sessionWithin
+      not-made e bytes =
+          on-test (ltb (length before) answerMost || ltb (length call) (stepSize call)) (λ t. rw t (rw t at o))
+          (λ t. on-test (areHeld (lengthsOf call))
+          (λ h. let x : Answers (output [] true) r before after = rw (t, h) at o in
+          true-or-false (sym e ∙ x .more))
+          (λ h. rw (t, h) (rw (t, h) at o)))
 
   pub answered : (before middle : List ℕ) → Made before middle → (bytes : List ℕ) (n : ℕ) (after : List ℕ)
       → Writes bytes n middle after

@@ -78,7 +78,7 @@ array-borrow-prefix-buffer : tie.Need-array-borrow-prefix-buffer
 array-borrow-prefix-buffer c = inside (c .before .before .before .before .before .before)
 
 slice-aggregate-run-all : tie.Need-slice-aggregate-run-all
-slice-aggregate-run-all c = sym (length-take-le _ _ (inside (c .before .before .before .before .before .before .before)))
+slice-aggregate-run-all c = sym (length-take-le _ _ (array-borrow-prefix-buffer (c .before)))
 
 run-all-requires : tie.Need-run-all-requires
 run-all-requires c κs =
