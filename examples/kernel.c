@@ -170,7 +170,7 @@ static void ask_text(struct kernel *kernel, const char *request) {
     print_label("text");
     printf("%s -> %.*s", request, (int)filled, (const char *)reply);
     if (sanirvoq_answer(result) == 1) {
-        printf("  errno %u", (unsigned)sanirvoq_text_read(reply, filled).packet.fourth);
+        printf("  errno %u", (unsigned)sanirvoq_text_decode(reply, filled).packet.fourth);
     }
     printf("\n");
 }

@@ -1,6 +1,7 @@
 /* Sanirvoq: the debug stub, for kernels in C.
  *
- * Link libcapi.a, which `rt staticlib capi` writes from what the checker proved (x86-64, System V calling convention).
+ * Link libsanirvoq.a, which `rt staticlib sanirvoq` writes from what the checker proved (x86-64, System V calling
+ * convention).
  *
  * The caller owns everything: the record, the memory window and the register area. The stub keeps nothing of its own,
  * allocates nothing and always returns. The record is plain numbers: any bytes of its size may be handed over, and a
@@ -307,11 +308,11 @@ SANIRVOQ_ASSERT(sizeof(struct sanirvoq_fields) == 20, "the size of a message's f
 
 /* Writes a message's ten bytes. Answers 0, or 2 where the buffer is not ten bytes, or 7 where the fields are no
  * message; then the buffer is as it was. */
-uint8_t sanirvoq_write(struct sanirvoq_fields fields, uint8_t *buffer, size_t length);
+uint8_t sanirvoq_message_encode(struct sanirvoq_fields fields, uint8_t *buffer, size_t length);
 
 /* Reads ten bytes. number: 0 and the message's fields, or 2 where the buffer is not ten bytes, or 7 where the bytes
  * are those of no message; then the fields are all 0. */
-struct sanirvoq_found sanirvoq_read(const uint8_t *bytes, size_t length);
+struct sanirvoq_found sanirvoq_message_decode(const uint8_t *bytes, size_t length);
 
 /* ---- what differs between two images; needs no record ---- */
 
@@ -367,11 +368,11 @@ SANIRVOQ_ASSERT(sizeof(struct sanirvoq_text_found) == 20, "the size of what read
 /* Writes a packet's one text to the front of the buffer. Other places stay, and where the number is not 0 all do: 11
  * where the buffer is shorter than SANIRVOQ_TEXT, whatever the text's length, else 10 where no packet has the letter.
  * Nothing is put behind the text, no zero byte either. */
-struct sanirvoq_text_written sanirvoq_text_write(struct sanirvoq_text_packet packet, uint8_t *buffer, size_t length);
+struct sanirvoq_text_written sanirvoq_text_encode(struct sanirvoq_text_packet packet, uint8_t *buffer, size_t length);
 
 /* Reads the packet whose text these bytes are: 0x and lower-case hex digits without leading zeros for a number, one
  * blank between fields, nothing after. Other bytes are number 10. */
-struct sanirvoq_text_found sanirvoq_text_read(const uint8_t *bytes, size_t length);
+struct sanirvoq_text_found sanirvoq_text_decode(const uint8_t *bytes, size_t length);
 
 /* ---- packets against noise (docs/PROTOCOL.md, Frames); needs no record ---- */
 

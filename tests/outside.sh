@@ -1,7 +1,7 @@
 #!/usr/bin/env bash
 # Checks the proved stub from outside, as kernels in C and Rust call it. Run it after the gate (.ci/run).
 #     tests/outside.sh
-# Makes libcapi.a and, for the benchmark, libbench_read.a in target/staticlib from what the gate proved, or takes
+# Makes libsanirvoq.a and, for the benchmark, libbench_read.a in target/staticlib from what the gate proved, or takes
 # those of the folder SANIRVOQ_LIB.
 # A check prints 'ok NAME' or 'FAILED NAME'; what it wrote is in target/outside/NAME.log.
 # Needs rt, cargo, gcc, g++, valgrind and python3. The last line is 'N passed, M failed'; exit status 1 unless M is 0.
@@ -15,7 +15,7 @@ fi
 # Programs are looked for in each crate's own target folder.
 unset CARGO_TARGET_DIR
 cd "$(dirname "$0")/.." || exit 1
-library=${SANIRVOQ_LIB:-target/staticlib}/libcapi.a
+library=${SANIRVOQ_LIB:-target/staticlib}/libsanirvoq.a
 logs=target/outside
 passed=0
 failed=0
@@ -54,7 +54,7 @@ under_valgrind() {
 }
 
 library() {
-    { [ -n "${SANIRVOQ_LIB:-}" ] || { rt staticlib capi && rt staticlib bench_read; }; } && ls -l "$library"
+    { [ -n "${SANIRVOQ_LIB:-}" ] || { rt staticlib sanirvoq && rt staticlib bench_read; }; } && ls -l "$library"
 }
 
 example_c() {

@@ -74,7 +74,7 @@ static int gives(struct kernel *kernel, const char *request, size_t room, uint8_
 /* A request that is carried out. */
 static void done(struct kernel *kernel, const char *request, const char *text) {
     expect(gives(kernel, request, SANIRVOQ_TEXT, SANIRVOQ_ACCEPTED, 0, text), request);
-    expect(sanirvoq_text_read((const uint8_t *)text, strlen(text)).packet.third == 0, text);
+    expect(sanirvoq_text_decode((const uint8_t *)text, strlen(text)).packet.third == 0, text);
 }
 
 /* A request that is answered with an error; it changes nothing, the condition in hand included. */
@@ -84,7 +84,7 @@ static void fails(struct kernel *kernel, const char *request, const char *text, 
     memcpy(memory, kernel->lent.memory, sizeof memory);
     memcpy(registers, kernel->lent.registers, sizeof registers);
     expect(gives(kernel, request, LONG, SANIRVOQ_ACCEPTED, 1, text), request);
-    const struct sanirvoq_text_packet reply = sanirvoq_text_read((const uint8_t *)text, strlen(text)).packet;
+    const struct sanirvoq_text_packet reply = sanirvoq_text_decode((const uint8_t *)text, strlen(text)).packet;
     expect(reply.third == SANIRVOQ_TEXT_ERROR && reply.fourth == (uint32_t)error, text);
     expect(memcmp(memory, kernel->lent.memory, sizeof memory) == 0, "memory after an error");
     expect(memcmp(registers, kernel->lent.registers, sizeof registers) == 0, "registers after an error");

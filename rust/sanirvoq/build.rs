@@ -1,4 +1,4 @@
-//! Links the archive that `rt staticlib capi` writes. `SANIRVOQ_LIB` names another folder that
+//! Links the archive that `rt staticlib sanirvoq` writes. `SANIRVOQ_LIB` names another folder that
 //! holds it, by an absolute path.
 
 use std::path::PathBuf;
@@ -9,10 +9,14 @@ fn main() {
         Some(folder) => PathBuf::from(folder),
         None => here.join("../../target/staticlib"),
     };
-    let archive = folder.join("libcapi.a");
-    assert!(archive.is_file(), "{} is not there: run `rt staticlib capi` first", archive.display());
+    let archive = folder.join("libsanirvoq.a");
+    assert!(
+        archive.is_file(),
+        "{} is not there: run `rt staticlib sanirvoq` first",
+        archive.display()
+    );
     println!("cargo:rustc-link-search=native={}", folder.display());
-    println!("cargo:rustc-link-lib=static=capi");
+    println!("cargo:rustc-link-lib=static=sanirvoq");
     println!("cargo:rerun-if-changed={}", archive.display());
     println!("cargo:rerun-if-env-changed=SANIRVOQ_LIB");
 }

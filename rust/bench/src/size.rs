@@ -3,7 +3,7 @@
 use std::path::{Path, PathBuf};
 use std::process::Command;
 
-const ARCHIVE: &str = "libcapi.a";
+const ARCHIVE: &str = "libsanirvoq.a";
 
 /// The folder of the archive that was linked: `rust/sanirvoq/build.rs` chooses it in the same way.
 fn folder() -> PathBuf {

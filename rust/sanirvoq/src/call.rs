@@ -158,14 +158,14 @@ pub(crate) fn write(fields: Fields, buffer: &mut [u8]) -> u8 {
     // SAFETY: The pointer is valid for the length, and nobody else has it: both come from one
     // `&mut`. Any fields may be passed. The function always returns, does not unwind and keeps no
     // pointer.
-    unsafe { ffi::sanirvoq_write(fields, buffer.as_mut_ptr(), buffer.len()) }
+    unsafe { ffi::sanirvoq_message_encode(fields, buffer.as_mut_ptr(), buffer.len()) }
 }
 
 /// The number and the fields that reading these bytes gives.
 pub(crate) fn read(bytes: &[u8]) -> Found {
     // SAFETY: The pointer is valid for reading the length: both come from one `&`, and the function
     // takes it as `const`. It always returns, does not unwind and keeps no pointer.
-    unsafe { ffi::sanirvoq_read(bytes.as_ptr(), bytes.len()) }
+    unsafe { ffi::sanirvoq_message_decode(bytes.as_ptr(), bytes.len()) }
 }
 
 /// Where two images differ, in a list of two numbers a run; answers as the archive does.
@@ -196,14 +196,14 @@ pub(crate) fn numbers(list: &mut [Run]) -> &mut [u32] {
 pub fn text_write(packet: TextPacket, buffer: &mut [u8]) -> TextWritten {
     // SAFETY: The pointer and the length come from one reference, and nobody else has what it lends.
     // The function always returns, does not unwind and keeps no pointer.
-    unsafe { ffi::sanirvoq_text_write(packet, buffer.as_mut_ptr(), buffer.len()) }
+    unsafe { ffi::sanirvoq_text_encode(packet, buffer.as_mut_ptr(), buffer.len()) }
 }
 
 /// Reads a text packet; answers as the archive does.
 pub fn text_read(bytes: &[u8]) -> TextFound {
     // SAFETY: The pointer and the length come from one reference, taken as `const`. The function
     // always returns, does not unwind and keeps no pointer.
-    unsafe { ffi::sanirvoq_text_read(bytes.as_ptr(), bytes.len()) }
+    unsafe { ffi::sanirvoq_text_decode(bytes.as_ptr(), bytes.len()) }
 }
 
 /// A reader of packets that skips to the next begin byte.

@@ -314,9 +314,9 @@ unsafe extern "C" {
         reply_length: usize,
     ) -> u32;
     /// Writes a message's ten bytes.
-    pub fn sanirvoq_write(fields: Fields, buffer: *mut u8, length: usize) -> u8;
+    pub fn sanirvoq_message_encode(fields: Fields, buffer: *mut u8, length: usize) -> u8;
     /// Reads ten bytes.
-    pub fn sanirvoq_read(bytes: *const u8, length: usize) -> Found;
+    pub fn sanirvoq_message_decode(bytes: *const u8, length: usize) -> Found;
     /// Fills a list with the runs of differing bytes of two images, two places a run.
     pub fn sanirvoq_image_differences(
         a: *const u8,
@@ -327,9 +327,9 @@ unsafe extern "C" {
         places: usize,
     ) -> Comparison;
     /// Writes a text packet to the front of a buffer.
-    pub fn sanirvoq_text_write(packet: TextPacket, buffer: *mut u8, length: usize) -> TextWritten;
+    pub fn sanirvoq_text_encode(packet: TextPacket, buffer: *mut u8, length: usize) -> TextWritten;
     /// Reads a text packet.
-    pub fn sanirvoq_text_read(bytes: *const u8, length: usize) -> TextFound;
+    pub fn sanirvoq_text_decode(bytes: *const u8, length: usize) -> TextFound;
     /// A reader of packets that skips to the next begin byte.
     pub fn sanirvoq_frame_reader() -> FrameReader;
     /// Feeds a piece of the line to a reader, up to the first answer.

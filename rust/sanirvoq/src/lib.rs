@@ -1,6 +1,6 @@
 //! The proved debug stub, for kernels in Rust.
 //!
-//! The stub itself is the archive `libcapi.a`, which `rt staticlib capi` writes from what the
+//! The stub itself is the archive `libsanirvoq.a`, which `rt staticlib sanirvoq` writes from what the
 //! checker proved. This crate calls it with slices and answers with enums, and has no code of the
 //! stub.
 //!

@@ -52,7 +52,7 @@ use Rattle.capi_results.proofs.setup as inner
 use Rattle.capi_lent.proofs.Lent.{slice, record-ref, record-slot, bytes, kept, given, goes-bytes, goes-read, goes-u8}
 use Rattle.capi_lent.proofs.Lent.{goes-u32}
 use Rattle.capi_lent.proofs.Stores.{mach}
-use Rattle.capi.proofs.sanirvoq_step_setup as f
+use Rattle.sanirvoq.proofs.sanirvoq_step_setup as f
 
 -- the record stays lent, the `&mut` slices are given up, and the rest stays
 abbrev stayed : Stays (f.ended .signature .params) (f.ended .kept)

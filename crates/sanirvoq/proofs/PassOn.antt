@@ -54,7 +54,7 @@ use Rattle.capi_lent.proofs.Lent.{Rel, lent, slice, record-ref, wordsTy, words-
 use Rattle.capi_lent.proofs.Lent.{words-slot, bytes, Words, kept, given, goes-record, goes-words, goes-bytes, goes-read}
 use Rattle.capi_lent.proofs.Lent.{goes-u8, goes-u32}
 use Rattle.capi_lent.proofs.step as step
-use Rattle.capi.proofs.sanirvoq_step_request as f
+use Rattle.sanirvoq.proofs.sanirvoq_step_request as f
 
 -- the record, the pool and the `&mut` slices are given up, and the rest stays
 abbrev stayed : Stays (f.ended .signature .params) (f.ended .kept)

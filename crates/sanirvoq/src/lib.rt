@@ -228,7 +228,7 @@ pub extern "C" fn sanirvoq_step_text(
 
 // Writes a message's ten bytes.
 #[no_mangle]
-pub extern "C" fn sanirvoq_write(message: Fields, buffer: &mut [u8]) -> u8
+pub extern "C" fn sanirvoq_message_encode(message: Fields, buffer: &mut [u8]) -> u8
     ensures { λ r. ⌜ written r (now (buffer .exit)) ≡ writeFields message (now (buffer .entry)) ⌝ }
 {
     wire_fields::write(message, buffer)
@@ -236,7 +236,7 @@ pub extern "C" fn sanirvoq_write(message: Fields, buffer: &mut [u8]) -> u8
 
 // Reads the message of ten bytes.
 #[no_mangle]
-pub extern "C" fn sanirvoq_read(bytes: &[u8]) -> Found
+pub extern "C" fn sanirvoq_message_decode(bytes: &[u8]) -> Found
     ensures { λ r. ⌜ r ≡ foundBy (readOf (now (bytes .entry))) ⌝ }
 {
     wire_fields::read(bytes)
@@ -253,7 +253,7 @@ pub extern "C" fn sanirvoq_image_differences(a: &[u8], b: &[u8], list: &mut [u32
 
 // Writes the text of a packet of the text dialect.
 #[no_mangle]
-pub extern "C" fn sanirvoq_text_write(packet: Packet, buffer: &mut [u8]) -> Writing
+pub extern "C" fn sanirvoq_text_encode(packet: Packet, buffer: &mut [u8]) -> Writing
     ensures { λ r. ⌜ textWritten r (now (buffer .exit)) ≡ writeText packet (now (buffer .entry)) ⌝ }
 {
     text_packet::write(packet, buffer)
@@ -261,7 +261,7 @@ pub extern "C" fn sanirvoq_text_write(packet: Packet, buffer: &mut [u8]) -> Writ
 
 // Reads the packet of a text.
 #[no_mangle]
-pub extern "C" fn sanirvoq_text_read(bytes: &[u8]) -> FoundPacket
+pub extern "C" fn sanirvoq_text_decode(bytes: &[u8]) -> FoundPacket
     ensures { λ r. ⌜ r ≡ foundText (readText (now (bytes .entry))) ⌝ }
 {
     text_packet_read::find(bytes)

@@ -9,14 +9,14 @@ use Rattle.rules.specs.Outcome.{world}
 use Rattle.step.specs.Kinds.{leaving}
 use Rattle.capi_results.specs.Seen.{seen, seenOf, setupFrom}
 use Rattle.target.specs.View.{viewOf}
-use Rattle.capi.proofs.ThinWhole.{Whole-rel, Inner, thin-meets}
+use Rattle.sanirvoq.proofs.ThinWhole.{Whole-rel, Inner, thin-meets}
 use Rattle.capi_results.proofs.setup.Symbol as inner-def
 use Rattle.capi_results.proofs.setup.Symbol.{name as #inner}
 use Rattle.capi_results.proofs.setup.Met as inner-thm
-use Rattle.capi.proofs.sanirvoq_step_setup.Key.{name as #f}
-use Rattle.capi.proofs.sanirvoq_step_setup as f
-use Rattle.capi.proofs.sanirvoq_step_setup.Statement as stated
-use Rattle.capi.proofs.sanirvoq_step_setup.Code as code
+use Rattle.sanirvoq.proofs.sanirvoq_step_setup.Key.{name as #f}
+use Rattle.sanirvoq.proofs.sanirvoq_step_setup as f
+use Rattle.sanirvoq.proofs.sanirvoq_step_setup.Statement as stated
+use Rattle.sanirvoq.proofs.sanirvoq_step_setup.Code as code
 
 -- with any pool, which a setup does not touch
 abbrev φ : Whole-rel
