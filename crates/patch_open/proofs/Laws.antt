@@ -108,7 +108,8 @@ unfolding fitOf windowFit
 window-within w f = (search parts depth 16, search parts depth 16)
 
 -- the plain window, as the code lays it: a copy of memory, over which the slots' plain bytes go
-pub plain-laid : (w : World) (s : Scan) → s ≡ scanOf (fitOf house (w .target) (w .mem)) (w .target .base) (w .target .table)
+pub plain-laid : (w : World) (s : Scan)
+    → s ≡ scanOf (fitOf house (w .target) (w .mem)) (w .target .base) (w .target .table)
     → fitOf house (w .target) (w .mem) ≡ true → (room copied laid : List ℕ) → length room ≡ length (w .mem)
     → copied ≡ paste room 0 (w .mem) (min (length room) (length (w .mem)))
     → laid ≡ plainOf (width house) (s .sites) (s .plain) copied → laid ≡ plainMemory house w
@@ -135,8 +136,11 @@ module _ (w : World) (room : ℕ) (wanted rm : List ℕ) where
     open-sized z =
         let o = opened w room (length wanted) offered (sym number-is ∙ z) in
         let b = window-within w (o .fit) in
-        let f : p .base ≡ w .target .base = ap (λ (x : Opening). x .base) e in
-        (omega (arith, o .imaged, o .roomy, same), omega (arith, b .0, f, o .roomy, same), omega (arith, b .1, o .roomy, same))
+        let f : p .base ≡ w .target .base = ap (λ (x : Opening). x .base) e in (
+          omega (arith, o .imaged, o .roomy, same),
+          omega (arith, b .0, f, o .roomy, same),
+          omega (arith, b .1, o .roomy, same),
+        )
 
   -- the planner says the same of two plain images where it looks at one only where they are the same
   module _ (p : Opening) (list : List Write)

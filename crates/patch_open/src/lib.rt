@@ -58,11 +58,11 @@ pub fn open(
     room: &mut [u8],
     offered: usize,
 ) -> Opening
-    ensures { λ r. ⌜ r ≡ openingOf
+    ensures { λ r. ⌜ (r ≡ openingOf
         (patchNumber house (world (viewOf t (now (places .entry))) (now (mem .entry)) (now (regs .entry)))
         (length (now (room .entry))) (length (now (wanted .entry))) offered)
-        (viewOf t (now (places .entry))) ⌝ }
-    ensures { λ r. ⌜ (r .number ≡ accepted → now (room .exit)
+        (viewOf t (now (places .entry))))
+        × (r .number ≡ accepted → now (room .exit)
         ≡ plainMemory house (world (viewOf t (now (places .entry))) (now (mem .entry)) (now (regs .entry)))) ⌝ }
 {
     let size = t.size as usize;
