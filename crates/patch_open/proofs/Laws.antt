@@ -151,7 +151,7 @@ module _ (w : World) (room : ℕ) (wanted rm : List ℕ) where
     unfolding planCall planUnless openingOf
     planned-call u f =
         f ∙ on-test (eqb (p .number) accepted)
-        (λ t. rw (laid (eqb-true (p .number) accepted t), e))
+        (λ t. let z = rw e at t in rw (laid (eqb-true (p .number) accepted t), e, z))
         (λ t. let z = rw e at t in rw (e, z))
 
   module _ (p : Opening) (offer : List Write)
@@ -168,5 +168,5 @@ module _ (w : World) (room : ℕ) (wanted rm : List ℕ) where
     unfolding checkCall spokenUnless openingOf
     checked-call v f r g =
         g ∙ on-test (eqb (p .number) accepted)
-        (λ t. rw (f, laid (eqb-true (p .number) accepted t), e))
+        (λ t. let z = rw e at t in rw (f, laid (eqb-true (p .number) accepted t), e, z))
         (λ t. let z = rw e at t in rw (e, z))

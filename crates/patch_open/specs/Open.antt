@@ -64,7 +64,17 @@ checkCall h w room wanted offer =
     spokenUnless (patchNumber h w room (length wanted) (length offer))
     (verdict (t .base) (protectedFrom t) (protectedTo t) (plainMemory h w) wanted offer)
 
--- ---- for the code: the number, and where the window and the stretch lie
+-- ---- for the code: the number, and where the window and the stretch lie. In a call that is refused every byte is
+-- protected, so that the checker stops at the first write
+
+-- behind every offset
+abbrev pub mostOffset : ℕ
+mostOffset = 18446744073709551615
+
 unfoldable pub openingOf : ℕ → Target → Opening
-openingOf number t =
-    record { number = number; base = t .base; from = protectedFrom t; to = protectedTo t }
+openingOf number t = record {
+  number = number;
+  base = t .base;
+  from = cond (eqb number accepted) (protectedFrom t) 0;
+  to = cond (eqb number accepted) (protectedTo t) mostOffset;
+}

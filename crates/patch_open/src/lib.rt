@@ -19,6 +19,9 @@ ghost use Rattle.patch_open.specs.Open.{patchNumber, openingOf, spokenUn
 // The most writes of an offer.
 const MOST_WRITES: usize = 16384;
 
+// Behind every offset.
+const MOST_OFFSET: usize = 18446744073709551615;
+
 // The number of a call before it looks at a write, and where the window and its protected stretch lie.
 pub struct Opening {
     pub number: u8,
@@ -36,9 +39,19 @@ pub struct Checking {
     pub index: u32,
 }
 
+// Where a call works, by its number. In one that is refused every byte is protected, so that the checker stops at the
+// first write.
 fn located(t: Target, number: u8) -> Opening
     ensures { λ r. ⌜ ((words : List ℕ) → r ≡ openingOf number (viewOf t words)) ⌝ }
 {
+    if number != common::ACCEPTED {
+        return Opening {
+            number,
+            base: t.base,
+            from: 0,
+            to: MOST_OFFSET,
+        };
+    }
     Opening {
         number,
         base: t.base,

@@ -1,12 +1,18 @@
 -- `patch_open::located` meets its contract. Assumes nothing.
 use mathlib.Core.Path.{refl}
+use borrow.Author.Tests.{eq-eqb, ne-eqb}
+use Rattle.common.specs.Numbers.{accepted}
 use Rattle.patch_open.specs.Open.{openingOf}
 use Rattle.patch_open.proofs.located.Statement.{statement}
 use Rattle.patch_open.proofs.located.Tie as tie
 
 returns : tie.Need-returns
 unfolding openingOf
-returns c = λ words. refl
+returns c = λ words. rw (ne-eqb _ accepted (c .if1 .taken))
+
+returns-2 : tie.Need-returns-2
+unfolding openingOf
+returns-2 c = λ words. rw (eq-eqb _ accepted (c .if1 .left))
 
 pub located-spec : {M : Type 1} → statement M
-located-spec = tie.close (tie.spec returns)
+located-spec = tie.close (tie.spec returns returns-2)
