@@ -8,6 +8,7 @@
  *     5   restart                                           number, reply[10]
  *     6   text room[4] length[4] request[length]            number, error, filled, buffer[room]
  *     7   look                                              memory[64], registers[272]
+ *     8   begin anew, protected from[8] to[8]               nothing
  *
  * A refused step of kind 1, 3 or 5 writes its number only. Another kind, or a step that is cut short, ends it with exit
  * status 1. */
@@ -15,8 +16,10 @@
 
 #include <stdio.h>
 #include <stdlib.h>
+#include <string.h>
 
-enum { BASE = 0x1000, SIZE = 64, PROCESSES = 2, AREA = PROCESSES * SANIRVOQ_BLOCK, LONGEST = 1 << 16, FILL = 0xee };
+enum { BASE = 0x1000, SIZE = 64, PROCESSES = 2, AREA = PROCESSES * SANIRVOQ_BLOCK_SIZE };
+enum { LONGEST = 1 << 16, FILL = 0xee };
 
 static uint8_t memory[SIZE], registers[AREA];
 static const struct sanirvoq_lent lent = {memory, SIZE, registers, AREA};
@@ -44,20 +47,37 @@ static void give(const uint8_t *bytes, size_t length) { fwrite(bytes, 1, length,
 /* The number, and where that is 0 what follows. */
 static void give_answer(uint8_t number, const uint8_t *bytes, size_t length) {
     give(&number, 1);
-    give(bytes, number == SANIRVOQ_ACCEPTED ? length : 0);
+    give(bytes, number == SANIRVOQ_OK ? length : 0);
 }
 
-static void begin(void) {
-    const uint32_t pids[PROCESSES] = {5, 7}, addresses[PROCESSES] = {0x80001000, 0x80002000};
+static void set_up(uint64_t from, uint64_t to) {
+    const struct sanirvoq_setup setup = {.base = BASE,
+                                         .size = SIZE,
+                                         .protected_from = from,
+                                         .protected_to = to,
+                                         .count = PROCESSES,
+                                         .processes = {{5, 0x80001000}, {7, 0x80002000}}};
     memset(registers, 0, AREA);
     for (int i = 0; i < SIZE; i++) {
         memory[i] = (uint8_t)i;
     }
-    stop_unless(sanirvoq_setup(&record, lent, BASE, SIZE, pids, addresses, PROCESSES) == 0, "setup");
+    stop_unless(sanirvoq_setup(&record, lent, &setup) == SANIRVOQ_OK, "setup");
+}
+
+static void begin(void) { set_up(BASE, BASE); }
+
+static uint64_t take_wide(void) {
+    const uint64_t high = take_word();
+    return high << 32 | take_word();
+}
+
+static void protect(void) {
+    const uint64_t from = take_wide();
+    set_up(from, take_wide());
 }
 
 static void request(void) {
-    uint8_t bytes[SANIRVOQ_MESSAGE], reply[SANIRVOQ_MESSAGE];
+    uint8_t bytes[SANIRVOQ_MESSAGE_SIZE], reply[SANIRVOQ_MESSAGE_SIZE];
     take(bytes, sizeof bytes);
     const uint32_t result = sanirvoq_request(&record, lent, bytes, sizeof bytes, reply, sizeof reply);
     stop_unless(sanirvoq_answer(result) == 0, "a process goes on at a breakpoint, which these steps have not");
@@ -65,7 +85,7 @@ static void request(void) {
 }
 
 static void schedule(void) {
-    uint8_t block[SANIRVOQ_BLOCK];
+    uint8_t block[SANIRVOQ_BLOCK_SIZE];
     const uint32_t pid = take_word();
     take(block, sizeof block);
     const uint32_t result = sanirvoq_schedule(&record, lent, pid, block, sizeof block);
@@ -74,7 +94,7 @@ static void schedule(void) {
 }
 
 static void restart(void) {
-    uint8_t reply[SANIRVOQ_MESSAGE];
+    uint8_t reply[SANIRVOQ_MESSAGE_SIZE];
     give_answer(sanirvoq_restart(&record, lent, reply, sizeof reply), reply, sizeof reply);
 }
 
@@ -100,7 +120,7 @@ static void look(void) {
 }
 
 int main(void) {
-    static void (*const steps[])(void) = {begin, request, NULL, schedule, NULL, restart, text, look};
+    static void (*const steps[])(void) = {begin, request, NULL, schedule, NULL, restart, text, look, protect};
     const int kinds = sizeof steps / sizeof steps[0];
     for (int kind = getchar(); kind != EOF; kind = getchar()) {
         stop_unless(kind < kinds && steps[kind] != NULL, "another kind");

@@ -2,21 +2,28 @@
 //!
 //! The stub itself is the archive `libsanirvoq.a`, which `rt staticlib sanirvoq` writes from what the
 //! checker proved. This crate calls it with slices and answers with enums, and has no code of the
-//! stub.
+//! stub. It has no unsafe code either: that is in [`sanirvoq_sys`], which also says how the archive is
+//! found.
 //!
 //! The kernel keeps a [`Stub`] and lends its memory window and its register area to every step. The
 //! borrow rules give what the archive asks of its caller: buffers that are valid, apart from each
 //! other, and left alone by others during the call. So no call here is unsafe, whatever the record,
 //! the sizes and the bytes are; what does not fit is refused by a [`Refusal`].
 //!
-//! ```
+//! Numbers and answers of a later archive that this edition does not know are an `Other`; nothing
+//! panics over them.
+//!
+#![cfg_attr(archive, doc = "```")]
+#![cfg_attr(not(archive), doc = "```no_run")]
 //! # fn main() -> Result<(), sanirvoq::Refusal> {
-//! use sanirvoq::{Served, Stub, BLOCK, MESSAGE};
+//! use sanirvoq::{Process, Served, Setup, Stub, BLOCK, MESSAGE};
 //!
 //! let mut memory: Vec<u8> = (0..64).collect();
 //! let mut registers = vec![0; 2 * BLOCK];
-//! let processes = [(5, 0x8000_1000), (7, 0x8000_2000)];
-//! let mut stub = Stub::setup(0x1000, 64, &processes, &mut memory, &mut registers)?;
+//! let process = |pid, address| Process { pid, address };
+//! let processes = [process(5, 0x8000_1000), process(7, 0x8000_2000)];
+//! let setup = Setup::new(0x1000, 64, &processes).protecting(0x1038..0x103c);
+//! let mut stub = Stub::setup(&setup, &mut memory, &mut registers)?;
 //!
 //! let request = [2, 0, 0, 0x10, 0x04, 4, 0, 0, 0, 0];
 //! let mut reply = [0; MESSAGE];
@@ -30,44 +37,42 @@
 //! Buffers that overlap do not compile:
 //!
 //! ```compile_fail
+//! # use sanirvoq::{Process, Setup, Stub};
+//! # let processes = [Process { pid: 5, address: 0 }];
 //! let mut memory = [0; 136];
-//! sanirvoq::Stub::setup(0x1000, 136, &[(5, 0)], &mut memory, &mut memory);
+//! let setup = Setup::new(0x1000, 136, &processes);
+//! let stub = Stub::setup(&setup, &mut memory, &mut memory);
 //! ```
 
 #![no_std]
-#![deny(unsafe_code, missing_docs)]
+#![forbid(unsafe_code)]
+#![deny(missing_debug_implementations, missing_docs)]
+#![warn(clippy::must_use_candidate)]
+#![cfg_attr(not(test), deny(clippy::expect_used, clippy::panic, clippy::unreachable))]
+#![cfg_attr(not(test), deny(clippy::unwrap_used))]
 
-#[allow(unsafe_code)]
-pub mod call;
-#[allow(unsafe_code)]
-pub mod ffi;
 mod frame;
 mod image;
 mod message;
-mod places;
 mod refusal;
 mod stub;
 mod text;
 mod text_step;
 
-pub use ffi::{FrameReader, Run, TextPacket};
 pub use frame::{frame_reply, Answer, Answers, Frames, NotFramed};
 pub use image::{differences, NotCompared};
-pub use message::{read, write, Message, Reason};
-pub use places::Element;
+pub use message::{Message, Reason};
 pub use refusal::Refusal;
-pub use stub::{Served, Stub, Verdict};
-pub use text::{read_text, write_text, NotText};
+pub use sanirvoq_sys::ffi::{FrameReader, Run};
+pub use sanirvoq_sys::{call, ffi, Element, RecordWords, BLOCK, MESSAGE, WORDS};
+pub use stub::{Process, Served, Setup, Stub, Verdict};
+pub use text::{NotText, TextPacket};
 pub use text_step::{Errno, Space, TextReply, TextRequest, TextServed};
 
-/// The bytes of a message, of a request and of a reply.
-pub const MESSAGE: usize = 10;
-/// The bytes of one process in the register area: 32 registers, status, pc, four bytes each.
-pub const BLOCK: usize = 136;
 /// The bytes of the longest image that [`differences`] takes.
 pub const IMAGE: usize = 65_536;
-/// The bytes of the longest text of a packet, which the buffers of [`write_text`] and of
-/// [`Stub::text`] must have.
+/// The bytes of the longest text of a packet, which the buffers of [`TextPacket::encode`]
+/// and of [`Stub::text`] must have.
 pub const TEXT: usize = 34;
 /// The bytes of the shortest buffer that [`Frames`] takes: the longest body and its checksum.
 pub const FRAME_BUFFER: usize = 534;
