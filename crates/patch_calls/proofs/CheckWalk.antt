@@ -74,7 +74,8 @@ use Rattle.target.specs.declared.Target.{Target}
 use Rattle.target.proofs.Target as T
 use Rattle.target.proofs.Target.Laws as T′
 use Rattle.patch_calls.proofs.Opens as S
-use Rattle.patch_calls.proofs.Opens.{slice, record-ref, words-ref, writes, Words, machᵀ, spelled, Opened, number-fits, base-fits, from-fits, to-fits}
+use Rattle.patch_calls.proofs.Opens.{slice, record-ref, words-ref, writes, Words, machᵀ, spelled, Opened}
+use Rattle.patch_calls.proofs.Opens.{number-fits, base-fits, from-fits, to-fits}
 use Rattle.patch_open.proofs.open as g
 use Rattle.patch_open.proofs.open.Symbol.{name as #g}
 use Rattle.patch_verdict.proofs.check as h

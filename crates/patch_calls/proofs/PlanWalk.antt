@@ -73,7 +73,8 @@ use Rattle.target.specs.declared.Target.{Target}
 use Rattle.target.proofs.Target as T
 use Rattle.target.proofs.Target.Laws as T′
 use Rattle.patch_calls.proofs.Opens as S
-use Rattle.patch_calls.proofs.Opens.{slice, record-ref, words-ref, writes, Words, machᵀ, spelled, Opened, number-fits, base-fits, from-fits, to-fits}
+use Rattle.patch_calls.proofs.Opens.{slice, record-ref, words-ref, writes, Words, machᵀ, spelled, Opened}
+use Rattle.patch_calls.proofs.Opens.{number-fits, base-fits, from-fits, to-fits}
 use Rattle.patch_calls.proofs.Shares.{shares-for-good}
 use Rattle.patch_open.proofs.open as g
 use Rattle.patch_open.proofs.open.Symbol.{name as #g}
@@ -101,8 +102,9 @@ function = record {
       (seq (assign (place 13 []) (aggregate (copy (place 12 []) ∷ copy (place 6 (field 1 ∷ [])) ∷ [])))
       (seq (assign (place 14 []) (addrOf (place 7 (field 0 ∷ deref Wr′.mir ∷ []))))
       (seq (assign (place 15 []) (aggregate (copy (place 14 []) ∷ copy (place 7 (field 1 ∷ [])) ∷ [])))
-      (seq (call #h (copy (place 8 (field 0 ∷ [])) ∷ copy (place 13 []) ∷ copy (place 5 []) ∷ copy (place 8 (field 1 ∷ []))
-      ∷ copy (place 8 (field 2 ∷ [])) ∷ copy (place 8 (field 3 ∷ [])) ∷ copy (place 15 []) ∷ []) (place 0 []))
+      (seq (call #h (copy (place 8 (field 0 ∷ [])) ∷ copy (place 13 []) ∷ copy (place 5 [])
+      ∷ copy (place 8 (field 1 ∷ [])) ∷ copy (place 8 (field 2 ∷ []))
+      ∷ copy (place 8 (field 3 ∷ [])) ∷ copy (place 15 []) ∷ []) (place 0 []))
       return))))))));
 }
 

@@ -21,12 +21,12 @@ use Rattle.target_fit.specs.Fit.{fitOf}
 use Rattle.patch_open.specs.declared.Opening.{Opening}
 use Rattle.patch_open.specs.declared.Checking.{Checking}
 
--- the protected stretch, by offset into the window: its first byte, and the byte behind it
+-- Five: the protected stretch, by offset into the window: its first byte, and the byte behind it
 abbrev pub protectedFrom : Target → ℕ
-protectedFrom t = 0
+protectedFrom t = t .protected .offset
 
 abbrev pub protectedTo : Target → ℕ
-protectedTo t = 0
+protectedTo t = t .protected .offset + t .protected .length
 
 -- "anyone may offer up to 16,384 writes"
 abbrev pub mostWrites : ℕ

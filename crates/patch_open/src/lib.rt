@@ -52,11 +52,13 @@ fn located(t: Target, number: u8) -> Opening
             to: MOST_OFFSET,
         };
     }
+    let stretch = t.protected;
+    let from = stretch.offset as usize;
     Opening {
         number,
         base: t.base,
-        from: 0,
-        to: 0,
+        from,
+        to: from + stretch.length as usize,
     }
 }
 

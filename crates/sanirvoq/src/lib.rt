@@ -40,7 +40,13 @@ ghost use Rattle.wire.specs.Codec.{written, readOf};
 
 // A setup, of which bytes `from` to before `to` of the window, by address, are protected.
 #[no_mangle]
-pub extern "C" fn sanirvoq_step_setup(t: &mut Target, mem: &[u8], regs: &[u8], from: u64, to: u64) -> u32
+pub extern "C" fn sanirvoq_step_setup(
+    t: &mut Target,
+    mem: &[u8],
+    regs: &[u8],
+    from: u64,
+    to: u64,
+) -> u32
     ensures { λ r. ⌜ ((words : List ℕ)
         → seen r (viewOf (now (t .exit)) words) (now (mem .entry)) (now (regs .entry)) []
         ≡ seenOf (setupFrom (world (viewOf (now (t .entry)) words) (now (mem .entry)) (now (regs .entry)))
@@ -313,7 +319,8 @@ pub extern "C" fn sanirvoq_patch_check(
     patch_open::answer(p.number, v)
 }
 
-// Plans the fewest writes that give a wanted image, at the front of a lent list. It has the body of `patch_calls::plan`.
+// Plans the fewest writes that give a wanted image, at the front of a lent list. It has the body of
+// `patch_calls::plan`.
 #[no_mangle]
 pub extern "C" fn sanirvoq_patch_plan(
     t: &Target,
