@@ -69,6 +69,7 @@ module _ (w : World) (room image offered : ℕ) where
 
   -- what holds where it has none
   pub record Opened : Type 0 where
+    pub right : sized w ≡ true
     pub roomy : room ≡ w .target .size
     pub fit : fitOf house (w .target) (w .mem) ≡ true
     pub imaged : image ≡ w .target .size
@@ -83,6 +84,7 @@ module _ (w : World) (room image offered : ℕ) where
       (λ f. let p₂ = rw f at p₁ in
       on-test (eqb image size && leb offered mostWrites)
       (λ i. record {
+        right = and-left (sized w) (eqb room size) s;
         roomy = eqb-true room size (and-right (sized w) (eqb room size) s);
         fit = f;
         imaged = eqb-true image size (and-left (eqb image size) (leb offered mostWrites) i);
@@ -102,7 +104,7 @@ unfolding sized
 memory-sized w s = search parts
 
 -- a fit record's window
-window-within : (w : World) → fitOf house (w .target) (w .mem) ≡ true
+pub window-within : (w : World) → fitOf house (w .target) (w .mem) ≡ true
     → (w .target .base + w .target .size ≤ 4294967296) × (w .target .size ≤ 65536)
 unfolding fitOf windowFit
 window-within w f = (search parts depth 16, search parts depth 16)
