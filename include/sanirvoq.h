@@ -28,7 +28,8 @@
  * records and buffers may run at once.
  *
  * Stack. Have 2,048 bytes for a call on x86-64 and 4,096 on RISC-V: a step takes less, as measured
- * (docs/PERFORMANCE.md has the figures), and the calls that need no record less again. No theorem bounds it.
+ * (docs/PERFORMANCE.md has the figures), and the calls that need no record less again. No theorem bounds it. The stack
+ * pointer is a multiple of 16 at a call, as both conventions have it; code written in assembly has to see to that.
  *
  * x86-64. The archive is compiled as for user space. It uses the red zone, the 128 bytes below the stack pointer, so
  * an interrupt that comes during a call must run on another stack (an IST entry), or interrupts are off. It uses the

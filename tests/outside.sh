@@ -5,8 +5,8 @@
 # those of the folder SANIRVOQ_LIB.
 # A check prints 'ok NAME' or 'FAILED NAME'; what it wrote is in target/outside/NAME.log. None is left out: where a
 # part of the repository, a program of the gate or a tool is missing, its checks fail.
-# Needs rt, cargo with clippy and rustfmt, gcc, g++, valgrind and python3. The last line is 'N passed, M failed'; exit
-# status 1 unless M is 0.
+# Needs rt, cargo with clippy and rustfmt (by rustup), and on Debian 12: apt-get install gcc g++ valgrind python3
+# The last line is 'N passed, M failed'; exit status 1 unless M is 0.
 set -uo pipefail
 if [ -n "${SANIRVOQ_LIB:-}" ]; then
     SANIRVOQ_LIB=$(realpath -m -- "$SANIRVOQ_LIB")
