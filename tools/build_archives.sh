@@ -61,7 +61,7 @@ RATTLE_HOME=$out/kit rt staticlib sanirvoq > "$out/staticlib.log" 2>&1 ||
 grep -q '^logic=proved ' "$out/staticlib.log" || fail "rt staticlib did not say 'logic=proved': see $out/staticlib.log"
 [ -f "$out/module/calls" ] || fail "rt staticlib did not run the clang of its kit: the module cannot be had this way"
 [ "$(wc -l < "$out/module/calls")" = 1 ] || fail "rt staticlib ran clang more than once: which module is it?"
-[ -s "$out/module/module.bc" ] || fail "rt staticlib gave clang no file of LLVM bitcode: the module cannot be had this way"
+[ -s "$out/module/module.bc" ] || fail "rt staticlib gave clang no bitcode file: the module cannot be had this way"
 mkdir -p "$out/x86_64"
 cp target/staticlib/libsanirvoq.a "$out/x86_64/"
 
@@ -89,5 +89,5 @@ archive rv32imac ilp32 --small
 archive rv64imac lp64 --small
 
 echo "The crate sanirvoq is proved ($(grep '^logic=proved ' "$out/staticlib.log" | cut -d' ' -f1,2))."
-echo "These archives are its module, compiled; a compilation is not proved, but tested (tests/riscv.sh, tests/outside.sh):"
+echo "These archives are its module, compiled. The compilation is not proved; tests/riscv.sh and outside.sh test it:"
 (cd "$out" && ls -l */libsanirvoq.a | awk '{ printf "  %6d bytes  target/archives/%s\n", $5, $9 }')

@@ -38,7 +38,8 @@ FORBIDDEN = re.compile(
 SCALAR = re.compile(r"(ptr|i64|i32|i16|i8|i1) noundef (%\S+)")
 IN_MEMORY = re.compile(r"ptr noundef byval\(\[(\d+) x i8\]\) align (\d+) (%\S+)")
 PART = re.compile(r"(i64|i32|i16|i8) (%\S+)")
-EXPORT = re.compile(r"^define (?!internal)([^@\n]*) (@[\w.]+)\(([^\n]*)\) (#\d+) \{\n((?:[^}].*\n|\n)*)\}\n", re.MULTILINE)
+EXPORT = re.compile(
+    r"^define (?!internal)([^@\n]*) (@[\w.]+)\(([^\n]*)\) (#\d+) \{\n((?:[^}].*\n|\n)*)\}\n", re.MULTILINE)
 
 
 class Refused(Exception):
@@ -65,7 +66,7 @@ def result_of(name, text, bits):
 
 
 def pair_of(name, first, second, body):
-    """The alignment of the struct whose two parts these arguments are, as the function's first lines put it together."""
+    """The alignment of the struct whose parts these two arguments are, as the function's first lines join them."""
     (wide, low), (width, high) = first, second
     whole = re.search(rf"store {wide} {low}, ptr (%\S+), align (\d+)\n"
                       rf"  (%\S+) = getelementptr i8, ptr \1, i64 8\n  store {width} {high}, ptr \3, align \d+\n", body)
