@@ -1,20 +1,28 @@
 //! The steps of the stub over slices.
 
-use crate::call::{Kind, Lent};
-use crate::ffi::{Process, Record, Target};
-use crate::{write_text, Refusal, TextReply, TextRequest, TextServed, TEXT};
+use crate::{Refusal, TextPacket, TextReply, TextRequest, TextServed, TEXT};
+use sanirvoq_sys::call::{self, Kind, Lent};
+use sanirvoq_sys::ffi::{Process, Record, Target};
+
+/// The bytes of a trap in memory.
+const TRAP: [u8; 2] = [0x02, 0x90];
 
 /// What the kernel is to do with a process that ran into a trap.
 #[derive(Debug, Clone, Copy, PartialEq, Eq)]
+#[non_exhaustive]
+#[must_use = "it says whether the process may run on, and how"]
 pub enum Verdict {
     /// The breakpoint of this id stops the process: it is not to run on.
     Stop(u8),
     /// The process runs on: these two bytes of the program are to be run elsewhere.
     Pass([u8; 2]),
+    /// An answer that this edition has no name for.
+    Other([u8; 3]),
 }
 
 /// What a served request leaves to the kernel, beside sending the reply.
 #[derive(Debug, Clone, Copy, PartialEq, Eq)]
+#[non_exhaustive]
 #[must_use = "a process that goes on at a breakpoint needs its two bytes run elsewhere"]
 pub enum Served {
     /// Nothing.
@@ -23,6 +31,8 @@ pub enum Served {
     /// are to be run elsewhere, with the registers of the process's block, then the process goes on
     /// behind them. Let go at the site itself it would only run into the trap again.
     ReplyAndPass([u8; 2]),
+    /// An answer that this edition has no name for.
+    Other([u8; 3]),
 }
 
 /// The stub's record: the window's place, the processes, the breakpoints and their conditions. It
@@ -106,7 +116,7 @@ impl Stub {
         block: &[u8],
     ) -> Result<bool, Refusal> {
         let lent = Lent { pid, input: block, ..self.lent(memory, registers) };
-        answer(lent.call(Kind::Schedule)).map(|[stops, ..]| stops == 1)
+        answer(lent.call(Kind::Schedule)).map(|[stops, ..]| stops != 0)
     }
 
     /// The kernel gives a process another state byte. Refused with [`Refusal::Size`], `Unfit`,
@@ -138,7 +148,8 @@ impl Stub {
     /// rest stays; the text may say an error. Refused, in this order, with [`Refusal::Size`] (of memory
     /// or registers), `Unfit`, `TextBuffer` or `NoPacket`.
     ///
-    /// ```
+    #[cfg_attr(archive, doc = "```")]
+    #[cfg_attr(not(archive), doc = "```no_run")]
     /// # fn main() -> Result<(), sanirvoq::Refusal> {
     /// use sanirvoq::{Stub, BLOCK, TEXT};
     ///
@@ -166,7 +177,8 @@ impl Stub {
     /// Serves a text request that is given as a value: writes its text, serves that and reads the reply.
     /// Refused with [`Refusal::Size`] or [`Refusal::Unfit`].
     ///
-    /// ```
+    #[cfg_attr(archive, doc = "```")]
+    #[cfg_attr(not(archive), doc = "```no_run")]
     /// # fn main() -> Result<(), sanirvoq::Refusal> {
     /// use sanirvoq::{Errno, Space, Stub, TextRequest, BLOCK};
     ///
@@ -187,17 +199,45 @@ impl Stub {
         request: TextRequest,
     ) -> Result<TextReply, Refusal> {
         let (mut text, mut reply) = ([0; TEXT], [0; TEXT]);
-        let request = write_text(request.into(), &mut text);
-        let request = request.expect("the buffer is long enough and the letter in its range");
+        // Its buffer is long enough and its letter in the range, so it is proved to be written.
+        let written = call::text_write(TextPacket::from(request).into(), &mut text);
+        let request = &text[..written.filled as usize];
         self.text(memory, registers, request, &mut reply).map(|served| served.reply())
     }
 
+    /// Puts the program's own bytes back where the window at `base` has the trap of a used entry, for a
+    /// kernel that gives up a record after [`Refusal::Unfit`] and sets up anew: a setup begins with no
+    /// breakpoint and takes the window as it is, and what lies under the traps would be lost with the
+    /// record.
+    ///
+    /// It trusts nothing in the record: an entry whose site is not in the window, or where memory does
+    /// not hold the trap, is left out. Gives how many used entries were left out; the kernel has to
+    /// know by itself what belongs there.
+    #[must_use = "entries that were left out need the kernel's own knowledge"]
+    pub fn put_back(&self, memory: &mut [u8], base: u32) -> usize {
+        let entries = self.record.target.table.entries;
+        let used = entries.iter().filter(|entry| entry.used == 1);
+        used.filter(|entry| {
+            let at = entry.site.checked_sub(base).map(|at| at as usize);
+            match at.and_then(|at| memory.get_mut(at..)?.first_chunk_mut()) {
+                Some(bytes) if *bytes == TRAP => {
+                    bytes.copy_from_slice(&entry.plain[..TRAP.len()]);
+                    false
+                }
+                _ => true,
+            }
+        })
+        .count()
+    }
+
     /// A stub of any record: one that is not fit is refused by every step.
+    #[must_use]
     pub fn from_raw(record: Record) -> Self {
         Self { record }
     }
 
     /// The record; its methods show the conditions that it has.
+    #[must_use]
     pub fn raw(&self) -> &Record {
         &self.record
     }
@@ -215,27 +255,28 @@ fn answer(result: u32) -> Result<[u8; 3], Refusal> {
     Refusal::check(number).map(|()| answer)
 }
 
-/// The answer of an accepted request. It is proved to be one of these.
+/// The answer of an accepted request.
 fn served(answer: [u8; 3]) -> Served {
     match answer {
         [0, _, _] => Served::Reply,
         [2, first, second] => Served::ReplyAndPass([first, second]),
-        other => unreachable!("the archive answered a request with {other:?}"),
+        other => Served::Other(other),
     }
 }
 
-/// The answer of an accepted trap. It is proved to be one of these.
+/// The answer of an accepted trap.
 fn verdict(answer: [u8; 3]) -> Verdict {
     match answer {
         [1, id, _] => Verdict::Stop(id),
         [2, first, second] => Verdict::Pass([first, second]),
-        other => unreachable!("the archive answered a trap with {other:?}"),
+        other => Verdict::Other(other),
     }
 }
 
 #[cfg(test)]
 mod tests {
     use super::*;
+    use sanirvoq_sys::ffi::Entry;
 
     #[test]
     fn a_result_has_the_number_lowest() {
@@ -244,14 +285,31 @@ mod tests {
     }
 
     #[test]
+    fn traps_that_stand_are_put_back_and_others_counted() {
+        let mut record = Record::default();
+        let entry = |site| Entry { used: 1, plain: [8, 9, 0, 0], site, ..Entry::default() };
+        let entries = &mut record.target.table.entries;
+        // In the window's first and last two bytes; overwritten; free.
+        (entries[0], entries[1], entries[2]) = (entry(0x1000), entry(0x1006), entry(0x1004));
+        entries[3] = Entry { used: 0, ..entry(0x1002) };
+        // Below the window, across its end, behind it.
+        (entries[4], entries[5], entries[6]) = (entry(0xffe), entry(0x1007), entry(u32::MAX));
+        let mut memory = [0x02, 0x90, 0x02, 0x90, 0x02, 0x91, 0x02, 0x90];
+        assert_eq!(Stub::from_raw(record).put_back(&mut memory, 0x1000), 4);
+        assert_eq!(memory, [8, 9, 0x02, 0x90, 0x02, 0x91, 8, 9]);
+    }
+
+    #[test]
     fn a_request_answers_the_reply_alone_or_with_pass() {
         assert_eq!(served([0, 0, 0]), Served::Reply);
         assert_eq!(served([2, 8, 9]), Served::ReplyAndPass([8, 9]));
+        assert_eq!(served([1, 8, 9]), Served::Other([1, 8, 9]));
     }
 
     #[test]
     fn a_trap_answers_stop_or_pass() {
         assert_eq!(verdict([1, 255, 0]), Verdict::Stop(255));
         assert_eq!(verdict([2, 8, 9]), Verdict::Pass([8, 9]));
+        assert_eq!(verdict([0, 8, 9]), Verdict::Other([0, 8, 9]));
     }
 }
