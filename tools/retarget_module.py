@@ -33,8 +33,8 @@ MACHINES = {"rv32imac": 32, "rv64imac": 64}
 
 # With any of these in a module it would not mean the same where a pointer has four bytes, or not be RISC-V's at all.
 FORBIDDEN = re.compile(
-    r"\b(ptrtoint|inttoptr|addrspacecast|va_arg|blockaddress|indirectbr|thread_local|module asm|call \S+ asm|"
-    r"getelementptr( \w+)* (ptr|\{)|ptr addrspace)\b|^@", re.MULTILINE)
+    r"\b(ptrtoint|inttoptr|addrspacecast|va_arg|blockaddress|indirectbr|thread_local|addrspace|asm)\b(?!\")|^@|"
+    r"\bgetelementptr (?!(?:(?:inbounds|nuw|nusw) )*i8,).*", re.MULTILINE)
 SCALAR = re.compile(r"(ptr|i64|i32|i16|i8|i1) noundef (%\S+)")
 IN_MEMORY = re.compile(r"ptr noundef byval\(\[(\d+) x i8\]\) align (\d+) (%\S+)")
 PART = re.compile(r"(i64|i32|i16|i8) (%\S+)")

@@ -17,7 +17,7 @@ sys.path.insert(0, str(ROOT / "examples" / "head"))
 
 from line import Head  # noqa: E402
 
-WINDOW, BEGIN = 0x80100000, 0x80100012
+BEGIN, LUI = 0x80100012, 0x8010001A  # the first instruction of the loop, and one of four bytes
 NAMES = ("left", "right")
 
 
@@ -119,7 +119,7 @@ def main():
         load = bytes.fromhex("03250000")
         for code, traps, cause in ((bytes(2), False, 2), (load, False, 5), (bytes(2), True, 2), (load, True, 5)):
             count += 1
-            if not broken(head, code, BEGIN, traps, cause) or sums(head) != wanted:
+            if not broken(head, code, LUI, traps, cause) or sums(head) != wanted:
                 print(f"{code.hex()} with {'a' if traps else 'no'} breakpoint breaks otherwise")
                 failed += 1
     print(f"{count} instructions, {failed} failed")

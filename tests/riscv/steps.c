@@ -80,27 +80,33 @@ struct call {
 static uint32_t list[2 * RUNS];
 static uint8_t body[SANIRVOQ_FRAME_BUFFER_SIZE];
 
+/* The mark is taken in the branch of the call itself, where the frame of this function is complete. */
+#define CALL(call)              \
+    do {                        \
+        MARK_STACK(stack_mark); \
+        call;                   \
+    } while (0)
+
 static void make(void *argument) {
     struct call *c = argument;
     const uint32_t in = c->input_length, out = c->reply_length;
-    MARK_STACK(stack_mark);
     switch (c->kind) {
-    case SETUP: c->result = sanirvoq_setup(&record, lent, &c->setup); break;
-    case REQUEST: c->result = sanirvoq_request(&record, lent, input, in, reply, out); break;
-    case TRAP: c->result = sanirvoq_trap(&record, lent, c->pid, input, in); break;
-    case SCHEDULE: c->result = sanirvoq_schedule(&record, lent, c->pid, input, in); break;
-    case STATE: c->result = sanirvoq_state(&record, lent, c->pid, (uint8_t)c->value); break;
-    case RESTART: c->result = sanirvoq_restart(&record, lent, reply, out); break;
-    case TEXT: c->result = sanirvoq_text(&record, lent, input, in, reply, out); break;
-    case ENCODE: c->result = sanirvoq_message_encode(c->fields, reply, out); break;
-    case DECODE: c->found = sanirvoq_message_decode(input, in); break;
-    case TEXT_ENCODE: c->written = sanirvoq_text_encode(c->packet, reply, out); break;
-    case TEXT_DECODE: c->text_found = sanirvoq_text_decode(input, in); break;
+    case SETUP: CALL(c->result = sanirvoq_setup(&record, lent, &c->setup)); break;
+    case REQUEST: CALL(c->result = sanirvoq_request(&record, lent, input, in, reply, out)); break;
+    case TRAP: CALL(c->result = sanirvoq_trap(&record, lent, c->pid, input, in)); break;
+    case SCHEDULE: CALL(c->result = sanirvoq_schedule(&record, lent, c->pid, input, in)); break;
+    case STATE: CALL(c->result = sanirvoq_state(&record, lent, c->pid, (uint8_t)c->value)); break;
+    case RESTART: CALL(c->result = sanirvoq_restart(&record, lent, reply, out)); break;
+    case TEXT: CALL(c->result = sanirvoq_text(&record, lent, input, in, reply, out)); break;
+    case ENCODE: CALL(c->result = sanirvoq_message_encode(c->fields, reply, out)); break;
+    case DECODE: CALL(c->found = sanirvoq_message_decode(input, in)); break;
+    case TEXT_ENCODE: CALL(c->written = sanirvoq_text_encode(c->packet, reply, out)); break;
+    case TEXT_DECODE: CALL(c->text_found = sanirvoq_text_decode(input, in)); break;
     case IMAGES:
-        c->comparison = sanirvoq_image_differences(c->a, c->a_length, c->b, c->b_length, list, c->places);
+        CALL(c->comparison = sanirvoq_image_differences(c->a, c->a_length, c->b, c->b_length, list, c->places));
         break;
-    case FEED: c->fed = sanirvoq_frame_feed(c->reader, c->a, c->a_length, body, c->b_length); break;
-    case FRAME_REPLY: c->result = sanirvoq_frame_reply(c->value, input, in, reply, out); break;
+    case FEED: CALL(c->fed = sanirvoq_frame_feed(c->reader, c->a, c->a_length, body, c->b_length)); break;
+    case FRAME_REPLY: CALL(c->result = sanirvoq_frame_reply(c->value, input, in, reply, out)); break;
     case KINDS: break;
     }
 }
