@@ -366,8 +366,8 @@ static void set_up(void) {
     const struct stub_setup setup = {
         .window = window,
         .size = WINDOW,
-        .guarded_from = base + POWER_LIMIT,
-        .guarded_to = base + POWER_LIMIT + 4,
+        .protected_from = base + POWER_LIMIT,
+        .protected_to = base + POWER_LIMIT + 4,
         .pids = {5, 7},
         .addresses = {(uint32_t)(uintptr_t)&processes[0], (uint32_t)(uintptr_t)&processes[1]},
         .registers = registers,

@@ -103,11 +103,15 @@ class Head:
         """Forgets the whole lines of text that have come so far. One that is cut counts as a new one."""
         self.text = self.text.rpartition("\n")[2]
 
+    def lines(self, name):
+        """The lines since the last `forget` that begin with this name."""
+        return [line for line in self.text.split("\n")[:-1] if line.startswith(name)]
+
     def line_of(self, name, count=1):
-        """The count-th line since the last `forget` that begins with this name."""
+        """The count-th such line; waits for it."""
         until = time.monotonic() + PATIENCE
         while True:
-            found = [line for line in self.text.split("\n")[:-1] if line.startswith(name)]
+            found = self.lines(name)
             if len(found) >= count:
                 return found[count - 1]
             piece = self.take()

@@ -57,7 +57,7 @@ next:
     ret
 
     .org 0xf00
-power_limit:                        # in mW. The stub guards this word: no request changes it.
+power_limit:                        # in mW. The stub protects this word: no request changes it.
     .word 45
 
 # The left side is 412 mm. 505 and 731 are glare; the rule of 520 mm lets 505 through.

@@ -9,6 +9,8 @@ uint8_t stub_setup(const struct stub_setup *setup) {
     struct sanirvoq_setup rules = {
         .base = (uint32_t)(uintptr_t)setup->window,
         .size = setup->size,
+        .protected_from = setup->protected_from,
+        .protected_to = setup->protected_to,
         .count = PROCESSES,
     };
     for (int i = 0; i < PROCESSES; i++) {

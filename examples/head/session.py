@@ -21,7 +21,7 @@ from line import Head  # noqa: E402
 from messages import TCONDBREAK, TMGET, TMPUT, TPROC, TSTART, TSTATUS, TSTOP, show_reply, show_request  # noqa: E402
 
 RULE = 0x8010006A         # programs.S: the instruction that says what is glare
-POWER_LIMIT = 0x80100F00  # the word that the stub guards
+POWER_LIMIT = 0x80100F00  # the word that the stub protects
 PATCH = bytes.fromhex("13878702")
 A4, PC = 4 * 14, 132
 LEFT, RIGHT = 5, 7
@@ -65,6 +65,12 @@ class Session:
         self.head.forget()
         self.head.line_of(name, 3)
 
+    def laser(self):
+        """What the head prints of its laser, where its power has changed."""
+        self.wait()
+        for line in self.head.lines("laser")[-1:]:  # a process may have read the limit before it changed
+            self.lines.append(f"{'':{WIDTH}} prints: {line}")
+
 
 def play(session):
     session.tell("The left side of the log is 412 mm. Glare at 505 mm gets through the rule of 520 mm.")
@@ -100,6 +106,14 @@ def play(session):
     session.send(TSTATUS, LEFT)
     session.send(TSTART, LEFT)
     session.prints("left")
+    session.tell("The laser's power limit, 45 mW, can be read and not changed, by a breakpoint neither.")
+    session.get(POWER_LIMIT, 4)
+    session.put(POWER_LIMIT, (90).to_bytes(4, "little"))
+    session.laser()
+    session.condition("n", 4)
+    session.condition("b", POWER_LIMIT)
+    session.laser()
+    session.get(POWER_LIMIT, 4)
     session.tell("The head restarts.")
     session.restart()
     session.get(RULE, 4)

@@ -14,8 +14,8 @@ enum { PROCESSES = 2 };
 struct stub_setup {
     uint8_t *window; /* what the host may read and write, and where it may set breakpoints */
     uint32_t size;
-    uint32_t guarded_from; /* addresses of a stretch of the window that no request changes */
-    uint32_t guarded_to;
+    uint32_t protected_from; /* addresses of a stretch of the window that no request changes */
+    uint32_t protected_to;
     uint32_t pids[PROCESSES];
     uint32_t addresses[PROCESSES];
     uint8_t *registers; /* a block of 136 bytes for each process */

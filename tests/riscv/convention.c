@@ -73,11 +73,16 @@ static whole step(whole_step *function, whole pid, whole value, const uint8_t *i
 
 static void set_up(void) {
     const struct sanirvoq_setup setup = {
-        .base = 0x1000, .size = WINDOW, .count = 2, .processes = {{5, 0x80001000}, {0x80000007, 0x80002000}}};
+        .base = 0x1000, .size = WINDOW, .protected_from = 0x1020, .protected_to = 0x1024, .count = 2,
+        .processes = {{5, 0x80001000}, {0x80000007, 0x80002000}}};
     for (int i = 0; i < WINDOW; i++) {
         memory[i] = (uint8_t)(0xf0 + i);
     }
+    struct sanirvoq_setup wide = setup;
+    wide.protected_to |= (uint64_t)1 << 32;
+    check("setup, an address over 32 bits", sanirvoq_setup(&record, lent, &wide) == 1);
     check("setup", sanirvoq_setup(&record, lent, &setup) == 0);
+    check("the protected stretch", record.target.protected_offset == 0x20 && record.target.protected_length == 4);
 }
 
 static void condition(uint8_t letter, uint32_t value) {

@@ -114,10 +114,12 @@ static void make(void *argument) {
 /* ---- what came out ---- */
 
 static uint32_t numbers[32], calls[KINDS], deepest[KINDS], served, stops, passes, continued, packets, text_errors;
+static uint32_t protected_writes, protected_sites;
 
 static void add_record(void) {
     const struct sanirvoq_target *t = &record.target;
-    add(t->base), add(t->size), add(t->count), add(t->selected), add(t->current);
+    add(t->base), add(t->size), add(t->protected_offset), add(t->protected_length);
+    add(t->count), add(t->selected), add(t->current);
     for (int i = 0; i < SANIRVOQ_PROCESSES; i++) {
         const struct sanirvoq_process *p = &t->processes[i];
         add(p->pid), add(p->address), add(p->state), add(p->wanted);
@@ -176,7 +178,11 @@ static void add_outcome(const struct call *c) {
     continued += c->kind == REQUEST && answer == SANIRVOQ_ANSWER_PASS;
     stops += c->kind == TRAP && answer == SANIRVOQ_ANSWER_STOP;
     passes += c->kind == TRAP && answer == SANIRVOQ_ANSWER_PASS;
-    text_errors += c->kind == TEXT && answer == 1;
+    text_errors += c->kind == TEXT && answer == SANIRVOQ_ANSWER_TEXT_ERROR;
+    if (c->kind == REQUEST && number == 0 && reply[0] == SANIRVOQ_MSG_RERR && reply[1] == 'u' && reply[3] == 's') {
+        protected_writes += input[0] == SANIRVOQ_MSG_TMPUT;
+        protected_sites += input[0] == SANIRVOQ_MSG_TCONDBREAK;
+    }
 }
 
 static void go(struct call *c) {
@@ -213,6 +219,8 @@ static uint32_t about(uint32_t length) { return one_in(60) ? below(length + 5) :
 
 static void set_up(void) {
     struct call c = {.kind = SETUP, .setup = {.base = 0x1000, .size = WINDOW, .count = 4}};
+    c.setup.protected_from = 0x1000 + 4 * below(16);
+    c.setup.protected_to = c.setup.protected_from + (one_in(3) ? 0 : 4 * below(2));
     static const uint32_t pids[4] = {5, 7, 9, 0xfffffffe}, addresses[4] = {0x80001000, 0x80002000, 0, 0xffffffff};
     for (int i = 0; i < 4; i++) {
         c.setup.processes[i].pid = pids[i];
@@ -229,6 +237,8 @@ static void try_setup(void) {
     c.setup.base = one_in(3) ? any() : 0x1000 + 4 * below(20);
     c.setup.size = one_in(4) ? below(80) : WINDOW;
     c.setup.count = below(6);
+    c.setup.protected_from = c.setup.base + below(one_in(4) ? 9 : 3) * (one_in(8) ? 3 : 4);
+    c.setup.protected_to = one_in(8) ? (uint64_t)any() << 32 : c.setup.protected_from + 4 * below(16);
     for (int i = 0; i < 4; i++) {
         c.setup.processes[i].pid = below(12);
         c.setup.processes[i].address = any();
@@ -554,7 +564,8 @@ static void report(const char *what, uint32_t number) {
 
 /* Every kind of call was made, every number that these calls have was given, and the rarer answers too. */
 static int reached_all(void) {
-    int all = served > 0 && stops > 0 && passes > 0 && continued > 0 && packets > 0 && text_errors > 0;
+    int all = served > 0 && stops > 0 && passes > 0 && continued > 0 && packets > 0 && text_errors > 0 &&
+              protected_writes > 0 && protected_sites > 0;
     for (int i = 0; i < KINDS; i++) {
         all = all && calls[i] > 0;
     }
@@ -595,7 +606,8 @@ int test(void) {
     }
     print(";");
     report("served", served), report("stops", stops), report("passes", passes), report("continued", continued);
-    report("packets", packets), report("text errors", text_errors);
+    report("packets", packets), report("text errors", text_errors), report("protected writes", protected_writes);
+    report("protected sites", protected_sites);
     print("\n");
     return reached_all();
 }
