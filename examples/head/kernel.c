@@ -66,6 +66,12 @@ static void say_number(uint32_t number) {
     send((uint8_t)('0' + number % 10));
 }
 
+static void stop_for_good(const char *why) {
+    say(why);
+    for (;;) {
+    }
+}
+
 /* Sets the alarm one tick from now. In user mode it interrupts; the kernel, with interrupts off, looks and waits. */
 static void set_alarm(void) {
     uint32_t high, low;
@@ -231,6 +237,25 @@ static void run_elsewhere(struct process *process, uint32_t result) {
     }
 }
 
+/* Number 3: the stub's record is spoiled, or something else than the stub wrote over a trap. The debug session is lost,
+ * and a new one begins with no breakpoint; the processes go on. */
+static bool is_lost(uint32_t result) {
+    uint32_t overwritten;
+    if (sanirvoq_number(result) != SANIRVOQ_ERR_UNFIT) {
+        return false;
+    }
+    if (stub_setup_anew(&overwritten) != SANIRVOQ_OK) {
+        stop_for_good("the stub refuses the setup\n");
+    }
+    say("the debug session is lost, traps overwritten: ");
+    say_number(overwritten);
+    say("\n");
+    for (int i = 0; i < PROCESSES; i++) {
+        processes[i].is_stopped = false;
+    }
+    return true;
+}
+
 /* After a request: a process that the host started goes on, with the registers that the host left in its block. */
 static void take_up(uint32_t result) {
     for (int i = 0; i < PROCESSES; i++) {
@@ -254,6 +279,9 @@ static void trap(struct process *process) {
     }
     put_block(block, &process->frame);
     const uint32_t result = stub_trap(process->pid, block);
+    if (is_lost(result)) {
+        return; /* the process comes here again, and finds no trap, or one of its own */
+    }
     if (sanirvoq_number(result) != SANIRVOQ_OK) {
         give_up(process, CAUSE_BREAK); /* number 6: the program's own ebreak */
     } else if (sanirvoq_answer(result) == SANIRVOQ_ANSWER_STOP) {
@@ -270,7 +298,7 @@ static void run(struct process *process) {
     if (!process->is_elsewhere) {
         put_block(block, &process->frame);
         const uint32_t result = stub_schedule(process->pid, block);
-        if (sanirvoq_number(result) != SANIRVOQ_OK || sanirvoq_answer(result) == 1) {
+        if (!is_lost(result) && sanirvoq_answer(result) == SANIRVOQ_ANSWER_STOP) {
             process->is_stopped = true;
             return;
         }
@@ -306,9 +334,12 @@ static void send_reply(uint32_t sequence, const uint8_t reply[SANIRVOQ_MESSAGE_S
 /* The head begins anew, its code as it is: a patch lives on, breakpoints do not. */
 static void restart(uint32_t sequence) {
     uint8_t reply[SANIRVOQ_MESSAGE_SIZE];
-    if (stub_restart(reply) != SANIRVOQ_OK) {
-        say("the stub refuses to restart\n");
-        return;
+    uint8_t number = stub_restart(reply);
+    if (is_lost(number)) {
+        number = stub_restart(reply);
+    }
+    if (number != SANIRVOQ_OK) {
+        stop_for_good("the stub refuses to restart\n");
     }
     for (int i = 0; i < PROCESSES; i++) {
         begin(&processes[i]);
@@ -324,13 +355,11 @@ static void serve_packet(struct sanirvoq_frame_answer packet) {
     uint8_t reply[SANIRVOQ_MESSAGE_SIZE];
     if (packet.request) {
         const uint32_t result = stub_request(body, reply);
-        if (sanirvoq_number(result) == SANIRVOQ_OK) {
+        if (!is_lost(result)) {
             send_reply(packet.sequence, reply);
             take_up(result);
-        } else {
-            say("the stub refuses a request with number ");
-            say_number(sanirvoq_number(result));
-            say("\n");
+        } else if (stub_restart(reply) == SANIRVOQ_OK) { /* the host learns of it by Rerr reset */
+            send_reply(packet.sequence, reply);
         }
     } else if (packet.size == 0 && packet.id >> 15 == 1) {
         restart(packet.sequence);
@@ -377,9 +406,7 @@ static void set_up(void) {
     set_machine_up();
     reader = sanirvoq_frame_reader();
     if (stub_setup(&setup) != SANIRVOQ_OK) {
-        say("the stub refuses the setup\n");
-        for (;;) {
-        }
+        stop_for_good("the stub refuses the setup\n");
     }
     for (int i = 0; i < PROCESSES; i++) {
         begin(&processes[i]);

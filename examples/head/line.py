@@ -47,10 +47,10 @@ def content(line):
 class Head:
     """A head under qemu. Its serial line is qemu's standard input and output."""
 
-    def __init__(self, elf):
+    def __init__(self, elf, *words):
         self.qemu = subprocess.Popen(
             ["qemu-system-riscv32", "-machine", "virt", "-bios", "none", "-display", "none", "-monitor", "none",
-             "-serial", "stdio", "-kernel", str(elf)], stdin=subprocess.PIPE, stdout=subprocess.PIPE)
+             "-serial", "stdio", "-kernel", str(elf), *words], stdin=subprocess.PIPE, stdout=subprocess.PIPE)
         self.bytes, self.text, self.sequence = b"", "", 0
 
     def __enter__(self):

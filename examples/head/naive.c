@@ -126,6 +126,12 @@ uint8_t stub_setup(const struct stub_setup *setup) {
     return SANIRVOQ_OK;
 }
 
+/* It never answers number 3: it does not look. */
+uint8_t stub_setup_anew(uint32_t *overwritten) {
+    *overwritten = 0;
+    return SANIRVOQ_OK;
+}
+
 uint32_t stub_request(const uint8_t request[SANIRVOQ_MESSAGE_SIZE], uint8_t reply[SANIRVOQ_MESSAGE_SIZE]) {
     const uint32_t value = get_word(request + 1);
     const int index = index_of(value);

@@ -3,10 +3,11 @@
 
 static struct sanirvoq_record record;
 static struct sanirvoq_lent lent;
+static struct sanirvoq_setup rules;
 
 uint8_t stub_setup(const struct stub_setup *setup) {
     lent = (struct sanirvoq_lent){setup->window, setup->size, setup->registers, PROCESSES * SANIRVOQ_BLOCK_SIZE};
-    struct sanirvoq_setup rules = {
+    rules = (struct sanirvoq_setup){
         .base = (uint32_t)(uintptr_t)setup->window,
         .size = setup->size,
         .protected_from = setup->protected_from,
@@ -17,6 +18,11 @@ uint8_t stub_setup(const struct stub_setup *setup) {
         rules.processes[i].pid = setup->pids[i];
         rules.processes[i].address = setup->addresses[i];
     }
+    return sanirvoq_setup(&record, lent, &rules);
+}
+
+uint8_t stub_setup_anew(uint32_t *overwritten) {
+    *overwritten = sanirvoq_put_back(&record, lent, rules.base);
     return sanirvoq_setup(&record, lent, &rules);
 }
 

@@ -22,6 +22,8 @@ struct stub_setup {
 };
 
 uint8_t stub_setup(const struct stub_setup *setup);
+/* After number 3: what lies under traps goes back, but for traps that were overwritten, and a new session begins. */
+uint8_t stub_setup_anew(uint32_t *overwritten);
 uint32_t stub_request(const uint8_t request[SANIRVOQ_MESSAGE_SIZE], uint8_t reply[SANIRVOQ_MESSAGE_SIZE]);
 uint32_t stub_trap(uint32_t pid, const uint8_t block[SANIRVOQ_BLOCK_SIZE]);
 uint32_t stub_schedule(uint32_t pid, const uint8_t block[SANIRVOQ_BLOCK_SIZE]);

@@ -5,11 +5,14 @@
 
 The kernel of examples/head has to run each instruction elsewhere (Pass), and both processes must come to the sum that
 they come to without a breakpoint. At an instruction of four bytes a second breakpoint stands on its second half
-meanwhile. Then faults: of an instruction, and of one that runs elsewhere. The last line is 'N instructions, M failed'.
+meanwhile. Then faults: of an instruction, and of one that runs elsewhere. Then a trap that something else than the stub
+overwrites, here by qemu's own debugger: the session is lost, the program is not. The last line is 'N tried, M failed'.
 Needs target/head/instructions.elf (examples/head/build.sh tests/riscv/instructions.S).
 """
 
+import socket
 import sys
+import tempfile
 from pathlib import Path
 
 ROOT = Path(__file__).resolve().parent.parent.parent
@@ -107,9 +110,38 @@ def broken(head, code, site, traps, cause):
     return lines == right and states == [b"Broken"] * 2 and reply == b"\x01reset\0\0\0\0"
 
 
+def debugger(path, *commands):
+    """Has qemu's debugger carry out commands of the remote protocol of gdb; the machine stands still meanwhile."""
+    with socket.socket(socket.AF_UNIX) as line:
+        line.connect(path)
+        for command in commands:
+            line.sendall(f"${command}#{sum(command.encode()) % 256:02x}".encode())
+            answer = b""
+            while not answer.endswith(b"$OK#9a"):
+                come = line.recv(100)
+                if not come:
+                    raise Failed(f"qemu's debugger answers {command} with {answer}")
+                answer += come
+            line.sendall(b"+")
+
+
+def overwritten(head, path):
+    """Breakpoints at two places; the trap of the second becomes other bytes, in fact the plain ones."""
+    kept = plain(head, LUI, 4)
+    set_breakpoint(head, 1, BEGIN)
+    set_breakpoint(head, 2, LUI)
+    head.forget()
+    debugger(path, f"M{LUI:x},2:{kept[:2].hex()}", "D")
+    lost = head.line_of("the debug session is lost")
+    condbreak(head, "n", 1)  # its id is free again
+    return lost == "the debug session is lost, traps overwritten: 1" and plain(head, LUI, 4) == kept
+
+
 def main():
     count = failed = 0
-    with Head(ROOT / "target" / "head" / "instructions.elf") as head:
+    folder = tempfile.TemporaryDirectory()
+    path = str(Path(folder.name) / "gdb")
+    with folder, Head(ROOT / "target" / "head" / "instructions.elf", "-gdb", f"unix:{path},server=on,wait=off") as head:
         wanted = sums(head)
         print(wanted)
         for site in list(sites(head)):
@@ -122,7 +154,11 @@ def main():
             if not broken(head, code, LUI, traps, cause) or sums(head) != wanted:
                 print(f"{code.hex()} with {'a' if traps else 'no'} breakpoint breaks otherwise")
                 failed += 1
-    print(f"{count} instructions, {failed} failed")
+        count += 1
+        if not overwritten(head, path) or sums(head) != wanted:
+            print("a trap that is overwritten is handled otherwise")
+            failed += 1
+    print(f"{count} tried, {failed} failed")
     sys.exit(failed != 0)
 
 
