@@ -161,5 +161,6 @@ check head examples/head/build.sh
 check head_session python3 examples/head/session.py --check
 check head_naive python3 examples/head/session.py --naive --check
 check head_elsewhere elsewhere
+check head_readme python3 tests/riscv/readme_excerpts.py
 echo "$passed passed, $failed failed"
 [ "$failed" -eq 0 ]

@@ -1,4 +1,4 @@
-/* NOT FOR USE. A debug stub as they are often written: when a breakpoint is planted it saves the bytes that lie there,
+/* NOT FOR USE. A debug stub as one writes it at first: when a breakpoint is planted it saves the bytes that lie there,
  * and when the breakpoint goes it puts those back. Writes go straight to memory. What was written across a breakpoint
  * is undone by its removal: half an instruction of the old code, half of the new. It is here to show the failure that
  * the proved stub rules out; session.py runs the same session against both.

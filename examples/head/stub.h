@@ -1,5 +1,5 @@
 /* The debug stub as this kernel calls it. Two files are behind it, and a build has one of them: proved.c, the archive
- * libsanirvoq.a; and naive.c, a stub as they are often written, to show what goes wrong then.
+ * libsanirvoq.a; and naive.c, which shows the failure that the proved stub rules out.
  *
  * Numbers, results, messages and the register area are those of sanirvoq.h. */
 #ifndef STUB_H
