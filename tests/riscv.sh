@@ -81,7 +81,7 @@ build() {
     [ "$bits" = 32 ] || abi=lp64
     flags="$flags -mabi=$abi -mcmodel=medany -ffreestanding -fno-builtin"
     case $compiler in
-    gcc) compiler="riscv64-unknown-elf-gcc -march=rv${bits}imac_zicsr_zifencei" ;;
+    gcc) compiler="riscv64-unknown-elf-gcc -march=rv${bits}imac_zicsr_zifencei -fno-tree-loop-distribute-patterns" ;;
     clang) compiler="clang --target=riscv$bits-unknown-elf -march=rv${bits}imac" ;;
     esac
     for file in machine.S machine.c "$test.c"; do

@@ -29,7 +29,7 @@ static uint32_t ticks;
 void kernel(void);
 uint32_t enter(struct frame *frame);
 
-/* For what the compiler and the archive ask of a C library. */
+/* What the compiler and the archive ask of a C library. build.sh keeps gcc from making calls of these out of them. */
 void *memcpy(void *to, const void *from, size_t length) {
     uint8_t *t = to;
     const uint8_t *f = from;
@@ -111,7 +111,7 @@ struct process {
     uint32_t pid;
     uint32_t entry;
     struct frame frame;
-    bool is_stopped;  /* by the stub */
+    bool is_stopped; /* by the stub */
     bool is_broken;
     bool is_elsewhere; /* it runs an instruction in its slot; then it goes on at `behind` */
     uint32_t behind;
@@ -144,11 +144,11 @@ static void put_block(uint8_t block[SANIRVOQ_BLOCK_SIZE], const struct frame *fr
     put_word(block + 132, frame->pc);
 }
 
+/* What the host may have changed. Not status: a process always runs in user mode. */
 static void get_block(struct frame *frame, const uint8_t block[SANIRVOQ_BLOCK_SIZE]) {
     for (int i = 1; i < 32; i++) {
         frame->x[i] = get_word(block + 4 * i);
     }
-    frame->status = get_word(block + 128);
     frame->pc = get_word(block + 132) & ~1u;
 }
 
@@ -423,12 +423,12 @@ void kernel(void) {
                 run(&processes[i]);
                 has_run = true;
             }
+            if (alarm_is_due()) { /* now, or it would interrupt the next process at once */
+                set_alarm();
+            }
         }
         if (!has_run) {
             __asm__ volatile("wfi");
-        }
-        if (alarm_is_due()) {
-            set_alarm();
         }
     }
 }
