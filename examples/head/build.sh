@@ -24,8 +24,8 @@ mkdir -p target/head
 build() {
     riscv64-unknown-elf-gcc -march=rv32imac_zicsr_zifencei -mabi=ilp32 -mcmodel=medany -std=c11 -O2 -Wall -Wextra \
         -Wpedantic -Werror -ffreestanding -fno-builtin -fno-tree-loop-distribute-patterns -nostdlib -static \
-        -Wl,--gc-sections -Iinclude -I$here -T $here/head.ld $here/start.S "$2" $here/kernel.c $here/elsewhere.c "$here/$3.c" "$archive" \
-        -o "target/head/$1.elf"
+        -Wl,--gc-sections -Iinclude -I$here -T $here/head.ld $here/start.S "$2" $here/kernel.c $here/elsewhere.c \
+        "$here/$3.c" "$archive" -o "target/head/$1.elf"
     echo "target/head/$1.elf"
 }
 
