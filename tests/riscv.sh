@@ -1,6 +1,6 @@
 #!/usr/bin/env bash
 # Checks the archives for RISC-V under qemu, beside the one for x86-64, and the head that runs. Run it after the gate.
-#     tests/riscv.sh [STEPS]
+#     tests/riscv.sh [STEPS [SEED]]
 # STEPS is how many random steps each machine makes, 200,000 unless it is given. The archives are made by
 # tools/build_archives.sh, or taken from the folder SANIRVOQ_ARCHIVES.
 # A check prints 'ok NAME' or 'FAILED NAME'; what it wrote is in target/riscv/NAME.log. The figures for
@@ -12,6 +12,7 @@ set -uo pipefail
 given=${SANIRVOQ_ARCHIVES:+$(realpath -m -- "$SANIRVOQ_ARCHIVES")}
 cd "$(dirname "$0")/.." || exit 1
 steps=${1:-200000}
+seed=${2:-1}
 archives=${given:-$PWD/target/archives}
 export SANIRVOQ_ARCHIVES=$archives
 logs=target/riscv
@@ -72,7 +73,7 @@ warnings="-std=c11 -O2 -Wall -Wextra -Wpedantic -Werror"
 # build MACHINE COMPILER TEST: the program target/riscv/TEST-MACHINE-COMPILER
 build() {
     local machine=$1 compiler=$2 test=$3 bits=${1:2:2} abi=ilp32 out=$logs/$3-$1-$2 file objects=
-    local flags="$warnings -DSTEPS=$steps -Iinclude -Itests/riscv"
+    local flags="$warnings -DSTEPS=$steps -DSEED=$seed -Iinclude -Itests/riscv"
     if [ "$machine" = x86_64 ]; then
         # shellcheck disable=SC2086
         "$compiler" $flags "tests/riscv/$test.c" tests/riscv/machine.c "$archives/x86_64/libsanirvoq.a" -o "$out"
