@@ -30,8 +30,9 @@ class Line:
 
 
 def exchange_over(link: Link, line: Line) -> Exchange:
-    kind = BlockExchange if line.blocks else FrameExchange
-    return kind(link, line.log, line.settings)
+    if line.blocks:
+        return BlockExchange(link, line.log, line.settings)
+    return FrameExchange(link, line.log, line.settings)
 
 
 def program_path() -> Path:

@@ -7,7 +7,7 @@ from dataclasses import dataclass, field
 from typing import Callable, Protocol
 
 from .errors import LineError
-from .frames import Answer, FrameReader, Packet, frame
+from .frames import RESTART, Answer, FrameReader, Packet, frame
 from .links import Link, drain
 from .log import Log
 from .messages import SIZE, Kind, Message, encode, read, rerr
@@ -48,6 +48,9 @@ class Exchange(Protocol):
 
     def text(self, request: bytes) -> bytes: ...
 
+    def restart(self) -> str:
+        """Asks a head to practise with for a restart: the protocol has no such request."""
+
     def close(self) -> None: ...
 
 
@@ -67,6 +70,7 @@ class FrameExchange:
         self._reader = FrameReader()
         self._sequence = 0
         self._line = b""
+        self._resets = 0
         self.counts = Counts()
         self.notices = Notices()
 
@@ -111,6 +115,7 @@ class FrameExchange:
             return False
         if packet.request and packet.body == rerr("reset"):
             self._log.message("<", packet.body)
+            self._resets += 1
             for told in self.notices.restarted:
                 told()
             return False
@@ -155,6 +160,19 @@ class FrameExchange:
                     self._log.text("<", line.encode())
                     return line.encode()
         raise LineError("no text reply: this head may not speak the text dialect, or the line lost it", known=False)
+
+    def restart(self) -> str:
+        """Asks a head to practise with for a restart."""
+        self._log.note("a restart is asked for")
+        self._link.send(RESTART)
+        before = self._resets
+        end = time.monotonic() + self._settings.seconds
+        while (left := end - time.monotonic()) > 0:
+            for packet in self._reader.feed(self._link.receive(left)):
+                self._is_reply(packet, set())
+            if self._resets > before:
+                return "Rerr reset"
+        raise LineError("the head did not restart: only heads to practise with do so on request", known=False)
 
     def close(self) -> None:
         self._link.close()
@@ -215,6 +233,9 @@ class BlockExchange:
                 data = b""
         raise LineError("no answer from the head, not even to zeros: is it switched on, and is the line the right one?",
                         known=False)
+
+    def restart(self) -> str:
+        raise LineError("a line of bare blocks has no way to ask for a restart: use frames")
 
     def text(self, request: bytes) -> bytes:
         raise LineError("a line of bare blocks carries no text dialect: use frames")

@@ -12,7 +12,9 @@ from .structures import FrameAnswer
 BODY_BUFFER = 534
 FRAMED = 26
 BEGIN = 0x1D
-END = 0x1E
+# A CVK_HDR_DATA packet with no body and sequence 0. The heads to practise with (practice.py, examples/head) take it
+# for a wish to be restarted; the protocol itself has none.
+RESTART = bytes.fromhex("1d80a08080808081e2c3c01e")
 
 
 class Answer(IntEnum):
@@ -45,7 +47,8 @@ class FrameReader:
 
     def feed(self, piece: bytes) -> list[Packet]:
         """Every answer that this piece brings."""
-        answers, at = [], 0
+        answers: list[Packet] = []
+        at = 0
         while True:
             rest = piece[at:]
             fed = self._feed(self._state, buffer(rest), len(rest), self._body, BODY_BUFFER)

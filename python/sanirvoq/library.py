@@ -9,6 +9,7 @@ import os
 import subprocess
 import tempfile
 from pathlib import Path
+from typing import Any, Callable
 
 from . import structures as s
 from .errors import LibraryError
@@ -16,9 +17,9 @@ from .errors import LibraryError
 ARCHIVE = "libsanirvoq.a"
 SIZE = ctypes.c_size_t
 BYTES = ctypes.c_void_p
-_MEMORY = [BYTES, SIZE, BYTES, SIZE]
-_RECORD = [ctypes.POINTER(s.Target), ctypes.POINTER(ctypes.c_uint32)]
-_STEP = [*_RECORD, *_MEMORY, ctypes.c_uint32, ctypes.c_uint8, BYTES, SIZE, BYTES, SIZE]
+_MEMORY: list[type] = [BYTES, SIZE, BYTES, SIZE]
+_RECORD: list[type] = [ctypes.POINTER(s.Target), ctypes.POINTER(ctypes.c_uint32)]
+_STEP: list[type] = [*_RECORD, *_MEMORY, ctypes.c_uint32, ctypes.c_uint8, BYTES, SIZE, BYTES, SIZE]
 
 # Every call: its arguments and its result, as include/sanirvoq.h has them.
 CALLS: dict[str, tuple[list[type], type]] = {
@@ -30,6 +31,10 @@ CALLS: dict[str, tuple[list[type], type]] = {
     "sanirvoq_frame_reader": ([], s.FrameReaderState),
     "sanirvoq_frame_feed": ([s.FrameReaderState, BYTES, SIZE, BYTES, SIZE], s.FrameFed),
     "sanirvoq_frame_reply": ([ctypes.c_uint32, BYTES, SIZE, BYTES, SIZE], ctypes.c_uint8),
+    "sanirvoq_patch_check": ([*_RECORD, *_MEMORY, ctypes.POINTER(s.PlannedWrite), SIZE, BYTES, SIZE, BYTES, SIZE],
+                             s.Verdict),
+    "sanirvoq_patch_plan": ([*_RECORD, *_MEMORY, BYTES, SIZE, BYTES, SIZE, ctypes.POINTER(s.PlannedWrite), SIZE],
+                            s.Planning),
     "sanirvoq_step_setup": ([_RECORD[0], *_STEP[2:]], ctypes.c_uint32),
     "sanirvoq_step_request": (_STEP, ctypes.c_uint32),
     "sanirvoq_step_trap": (_STEP, ctypes.c_uint32),
@@ -105,9 +110,9 @@ def library() -> ctypes.CDLL:
     return loaded
 
 
-def call(name: str) -> ctypes._NamedFuncPointer:
+def call(name: str) -> Callable[..., Any]:
     """A call by its name; an error where this archive has none."""
-    function = getattr(library(), name, None)
+    function: Callable[..., Any] | None = getattr(library(), name, None)
     if function is None:
         raise LibraryError(f"the library has no {name}: {archive_path()} is older than this package")
     return function

@@ -156,7 +156,9 @@ def open_link(address: str, seconds: float = 5.0) -> Link:
     if kind == "program" and rest:
         return ProgramLink(shlex.split(rest))
     if os.path.exists(address) and stat.S_ISCHR(os.stat(address).st_mode):
-        return PtyLink(address) if address.startswith("/dev/pts/") else SerialLink(address, DEFAULT_BAUD)
+        if address.startswith("/dev/pts/"):
+            return PtyLink(address)
+        return SerialLink(address, DEFAULT_BAUD)
     raise CommandError(f"no way to a head is called {address}: tcp:HOST:PORT, serial:PATH@BAUD, pty:PATH, "
                        "program:COMMAND or a device's path")
 

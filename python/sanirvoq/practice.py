@@ -22,8 +22,6 @@ WINDOW = 1024
 BASE = 0x1000
 ROUTINE = (0x1000, 0x1040)
 PROCESSES = ((5, 0x80001000), (7, 0x80002000))
-# A CVK_HDR_DATA packet with no body and sequence 0: the practice heads take it for a wish to be restarted.
-RESTART = bytes.fromhex("1d80a08080808081e2c3c01e")
 
 
 def practice_setup() -> Setup:

@@ -82,8 +82,23 @@ class FrameFed(ctypes.Structure):
     _fields_ = [("reader", FrameReaderState), ("taken", c_size_t), ("answer", FrameAnswer), ("number", c_uint8)]
 
 
+class PlannedWrite(ctypes.Structure):
+    """A write of a patch plan."""
+
+    _fields_ = [("address", c_uint32), ("count", c_uint32), ("bytes", c_uint8 * 4)]
+
+
+class Verdict(ctypes.Structure):
+    _fields_ = [("number", c_uint8), ("verdict", c_uint8), ("index", c_uint32)]
+
+
+class Planning(ctypes.Structure):
+    _fields_ = [("number", c_uint8), ("address", c_uint32), ("writes", c_uint32)]
+
+
 SIZES = {Entry: 12, Draft: 3, Table: 100, Process: 12, Target: 168, Fields: 20, Found: 24, Comparison: 8,
-         TextFields: 16, TextWritten: 8, TextFound: 20, FrameReaderState: 24, FrameFed: 48}
+         TextFields: 16, TextWritten: 8, TextFound: 20, FrameReaderState: 24, FrameFed: 48,
+         PlannedWrite: 12, Verdict: 8, Planning: 12}
 
 for _kind, _size in SIZES.items():
     if ctypes.sizeof(_kind) != _size:

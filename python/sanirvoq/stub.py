@@ -60,9 +60,12 @@ class Stub:
 
     def _step(self, name: str, pid: int, value: int, given: bytes, reply: ctypes.Array[ctypes.c_char],
               length: int) -> Result:
-        result = call(f"sanirvoq_step_{name}")(ctypes.byref(self.target), self.places, *self._lent, pid, value,
-                                               buffer(given), len(given), reply, length)
+        result = call(f"sanirvoq_step_{name}")(*self.lent(), pid, value, buffer(given), len(given), reply, length)
         return Result(*result.to_bytes(4, "little"))
+
+    def lent(self) -> tuple[object, ...]:
+        """The record and what is lent to every call that has one."""
+        return (ctypes.byref(self.target), self.places, *self._lent)
 
     def request(self, request: bytes) -> tuple[Result, bytes]:
         """A request of ten bytes and its reply; the result is Pass where a process goes on at a breakpoint."""

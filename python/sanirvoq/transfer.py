@@ -71,9 +71,9 @@ def save(head: Head, address: int, length: int, path: Path, progress: Progress =
     return part.finish(), begun
 
 
-def check_size(data: bytes) -> None:
-    if len(data) > MOST:
-        raise CommandError(f"{len(data)} bytes are more than any window holds ({MOST})")
+def check_size(length: int) -> None:
+    if length > MOST:
+        raise CommandError(f"{length} bytes are more than any window holds ({MOST})")
 
 
 def compare(address: int, wanted: bytes, found: bytes) -> None:
