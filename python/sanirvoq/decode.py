@@ -5,8 +5,8 @@ from __future__ import annotations
 import re
 from typing import Iterator
 
-from .frames import BEGIN, Answer, FrameReader
-from .messages import SIZE, decode, meaning, NoMessage
+from .frames import Answer, FrameReader
+from .messages import SIZE, meaning
 
 _LOGGED = re.compile(r"^(\S+) ([<>#]) (.*)$")
 _HEX = re.compile(r"^[0-9a-f]+")
@@ -21,7 +21,8 @@ def form_of(data: bytes) -> str:
             return "log"
     except UnicodeDecodeError:
         pass
-    return "frames" if BEGIN in data and not data[:1] < b"\x18" or data[:1] == bytes([BEGIN]) else "blocks"
+    whole = any(packet.kind is Answer.PACKET for packet in FrameReader().feed(data))
+    return "frames" if whole else "blocks"
 
 
 def tell(data: bytes, form: str) -> Iterator[str]:
@@ -29,7 +30,7 @@ def tell(data: bytes, form: str) -> Iterator[str]:
 
 
 def tell_log(data: bytes) -> Iterator[str]:
-    """Each line, its bytes told anew from their hex; a line whose words say another thing is marked."""
+    """Each line, its bytes told anew from their hex, whatever its words say."""
     for number, line in enumerate(data.decode("utf-8", "replace").splitlines(), 1):
         match = _LOGGED.match(line)
         if not match:
@@ -70,11 +71,3 @@ def tell_frames(data: bytes) -> Iterator[str]:
             yield f"{where}  sequence {packet.sequence:3}  {packet.body.hex()}  {meaning(packet.body)}"
         else:
             yield f"{where}  a packet of {len(packet.body)} bytes, logical ID {packet.identifier:#010x}"
-
-
-def is_message(data: bytes) -> bool:
-    try:
-        decode(data)
-    except NoMessage:
-        return False
-    return True

@@ -60,6 +60,10 @@ class LineError(BenchError):
         self.known = known
 
 
+class LineGone(LineError):
+    """The line itself is gone: closed at the other end, or the device was pulled."""
+
+
 class LibraryError(BenchError):
     """The proved library cannot be had, or lacks a call."""
 

@@ -183,17 +183,22 @@ class BlockExchange:
 
     def __init__(self, link: Link, log: Log, settings: Settings) -> None:
         self._link, self._log, self._settings = link, log, settings
+        self._waiting = False
         self.counts = Counts()
         self.notices = Notices()
 
     def ask(self, request: bytes, repeatable: bool, asked: int = 9) -> tuple[bytes, int]:
+        if self._waiting:  # somebody interrupted the last request: its reply must not be taken for this one's
+            self.resynchronise()
         most = self._settings.tries if repeatable else 1
         for tries in range(1, most + 1):
             self._log.message(">", request, asked)
             self.counts.sent += 1
+            self._waiting = True
             self._link.send(request)
             reply = self._receive_block()
             if reply is not None:
+                self._waiting = False
                 self._log.message("<", reply, asked)
                 return reply, tries
             self.resynchronise()
@@ -229,6 +234,7 @@ class BlockExchange:
                 self._link.send(encode(read(0, 0)))
                 if self._receive_block() == encode(Message(Kind.RMGET)):
                     self._log.note("the head is between two requests again")
+                    self._waiting = False
                     return
                 data = b""
         raise LineError("no answer from the head, not even to zeros: is it switched on, and is the line the right one?",

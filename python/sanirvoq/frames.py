@@ -11,7 +11,6 @@ from .structures import FrameAnswer
 
 BODY_BUFFER = 534
 FRAMED = 26
-BEGIN = 0x1D
 # A CVK_HDR_DATA packet with no body and sequence 0. The heads to practise with (practice.py, examples/head) take it
 # for a wish to be restarted; the protocol itself has none.
 RESTART = bytes.fromhex("1d80a08080808081e2c3c01e")

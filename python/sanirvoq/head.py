@@ -17,7 +17,7 @@ from .repeat import is_repeatable
 REPLY_OF = {Kind.TMGET: Kind.RMGET, Kind.TMPUT: Kind.RMPUT, Kind.TPROC: Kind.RPROC, Kind.TSTATUS: Kind.RSTATUS,
             Kind.TRNOTE: Kind.RRNOTE, Kind.TSTOP: Kind.RSTOP, Kind.TSTART: Kind.RSTART,
             Kind.TCONDBREAK: Kind.RCONDBREAK}
-WHOLE_TRIES = 5
+WHOLE_TRIES = 20
 
 
 class Head:

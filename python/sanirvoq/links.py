@@ -12,7 +12,7 @@ import time
 import tty
 from typing import Protocol
 
-from .errors import CommandError, LineError
+from .errors import CommandError, LineError, LineGone
 
 DEFAULT_BAUD = 115200
 PIECE = 4096
@@ -41,7 +41,7 @@ class DescriptorLink:
             while data:
                 data = data[os.write(self._writing, data):]
         except OSError as error:
-            raise LineError(f"the line is gone: {error.strerror}", known=False) from error
+            raise LineGone(f"the line is gone: {error.strerror}", known=False) from error
 
     def receive(self, seconds: float) -> bytes:
         try:
@@ -50,9 +50,9 @@ class DescriptorLink:
                 return b""
             data = os.read(self._reading, PIECE)
         except OSError as error:
-            raise LineError(f"the line is gone: {error.strerror}", known=False) from error
+            raise LineGone(f"the line is gone: {error.strerror}", known=False) from error
         if not data:
-            raise LineError("the other end closed the line", known=False)
+            raise LineGone("the other end closed the line", known=False)
         return data
 
     def close(self) -> None:
@@ -91,7 +91,6 @@ class SerialLink:
 
     def __init__(self, path: str, baud: int) -> None:
         import serial
-        self._failure: type[Exception] = serial.SerialException
         try:
             self._port = serial.Serial(path, baud, timeout=0)
         except (OSError, ValueError) as error:
@@ -102,14 +101,14 @@ class SerialLink:
             self._port.write(data)
             self._port.flush()
         except OSError as error:
-            raise LineError(f"the serial port is gone: {error}", known=False) from error
+            raise LineGone(f"the serial port is gone: {error}", known=False) from error
 
     def receive(self, seconds: float) -> bytes:
         try:
             select.select([self._port.fileno()], [], [], max(seconds, 0))
             return bytes(self._port.read(PIECE))
         except OSError as error:
-            raise LineError(f"the serial port is gone: {error}", known=False) from error
+            raise LineGone(f"the serial port is gone: {error}", known=False) from error
 
     def close(self) -> None:
         self._port.close()

@@ -9,7 +9,7 @@ import time
 
 from .errors import LineError
 from .exchange import Counts, Notices, Settings
-from .links import Link
+from .links import Link, drain
 from .log import Log
 from .messages import SIZE, Kind
 from .stub import BLOCK, PASS
@@ -25,15 +25,21 @@ class ProgramExchange:
     def __init__(self, link: Link, log: Log, settings: Settings) -> None:
         self._link, self._log, self._settings = link, log, settings
         self._held = b""
+        self._waiting = False
         self.counts = Counts()
         self.notices = Notices()
 
     def ask(self, request: bytes, repeatable: bool, asked: int = 9) -> tuple[bytes, int]:
+        if self._waiting:  # somebody interrupted the last request: its reply must not be taken for this one's
+            drain(self._link, 0.1)
+            self._held = b""
         self._log.message(">", request, asked)
         self.counts.sent += 1
+        self._waiting = True
         self._link.send(bytes([REQUEST]) + request)
         self._number("the request")
         reply = self._take(SIZE)
+        self._waiting = False
         if reply[0] == Kind.RSTART:
             self._drop_pass()
         self._log.message("<", reply, asked)

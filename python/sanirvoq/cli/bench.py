@@ -2,6 +2,7 @@
 
 from __future__ import annotations
 
+import contextlib
 from dataclasses import dataclass
 from pathlib import Path
 from typing import Callable
@@ -78,12 +79,17 @@ class Bench:
         self.belief.restarted()
         self.output.notice(f"the head was restarted: no breakpoint stands any more ({stood} stood, as far as known)")
 
+    def disconnect(self) -> None:
+        """The next command that needs the head connects anew."""
+        if self._head:
+            head, self._head = self._head, None
+            with contextlib.suppress(OSError):
+                head.close()
+
     def close(self) -> None:
         if self.options.session:
             self.belief.save(self.options.session)
-        if self._head:
-            self._head.close()
-            self._head = None
+        self.disconnect()
         self.log.close()
 
     def confirm(self, question: str) -> bool:

@@ -61,13 +61,22 @@ def joined(words: list[str]) -> str:
     return words[0] if len(words) == 1 else " ".join(shlex.quote(word) if " " in word else word for word in words)
 
 
+def greet(bench: Bench) -> None:
+    """The first contact: where the window lies, or what is wrong with the line."""
+    try:
+        base, size = bench.window()
+        bench.output.notice(f"the head answers: its window is {base:#x} to {base + size - 1:#x}, {size:,} bytes")
+    except BenchError as error:
+        bench.output.notice(str(error))
+
+
 def at_prompt(options: Options, output: Output, name: str) -> int:
     bench = Bench(options, output)
     prompt = Prompt(bench, name)
     bench.attend(prompt.confirm)
     try:
         if options.head:
-            bench.head
+            greet(bench)
         return prompt.loop()
     finally:
         bench.close()

@@ -13,6 +13,7 @@ from prompt_toolkit.history import FileHistory, History, InMemoryHistory
 
 from ..registers import NAMES
 from .bench import Bench
+from .output import counted
 from .table import COMMANDS, ENDS, perform
 
 AFTER: dict[str, list[str]] = {"set": list(NAMES[1:]), "registers": [], "explain": ["break"], "help": list(COMMANDS),
@@ -73,7 +74,7 @@ def bottom(bench: Bench) -> str:
     parts = [bench.options.head or "no head"]
     if belief.base is not None:
         parts.append(f"window {belief.base:#x}..{belief.base + belief.size - 1:#x}")
-    parts.append(f"{len(belief.breakpoints)} breakpoints (believed)")
+    parts.append(f"{counted(len(belief.breakpoints), 'breakpoint')} (believed)")
     if belief.current is not None:
         parts.append(f"process {belief.current}")
     if bench.connected:
@@ -124,4 +125,5 @@ class Prompt:
     def _farewell(self) -> None:
         stand = len(self._bench.belief.breakpoints)
         if stand:
-            self._bench.output.notice(f"{stand} breakpoints still stand on the head, as far as known")
+            told = "breakpoint still stands" if stand == 1 else "breakpoints still stand"
+            self._bench.output.notice(f"{stand} {told} on the head, as far as known")

@@ -6,7 +6,7 @@ import difflib
 
 from rich.text import Text
 
-from ..errors import BenchError, CommandError
+from ..errors import BenchError, CommandError, LineGone
 from . import breaks, changes, line, memory, processes
 from .bench import Bench
 from .command import Command
@@ -80,6 +80,8 @@ def perform(bench: Bench, text: str, typed_at: int | None = None) -> int:
         return 130
     except BenchError as error:
         bench.output.fail(text, error, typed_at)
+        if isinstance(error, LineGone):
+            bench.disconnect()
         return error.status
     bench.output.show(name, result)
     return result.status
