@@ -77,6 +77,7 @@ class FrameExchange:
     def ask(self, request: bytes, repeatable: bool, asked: int = 9) -> tuple[bytes, int]:
         most = self._settings.tries if repeatable else 1
         waited: set[int] = set()
+        self._take_backlog()
         for tries in range(1, most + 1):
             self._sequence = (self._sequence + 1) % 256
             waited.add(self._sequence)
@@ -91,6 +92,14 @@ class FrameExchange:
                 self.counts.again += 1
                 self._log.note("no whole answer: the request is sent again")
         raise unanswered(most, repeatable)
+
+    def _take_backlog(self) -> None:
+        """What the head said since the last request, so that the wait for a reply begins with the reply."""
+        end = time.monotonic() + self._settings.seconds
+        while (piece := self._link.receive(0)) and time.monotonic() < end:
+            self._take_lines(piece)
+            for packet in self._reader.feed(piece):
+                self._is_reply(packet, set())
 
     def _await_reply(self, waited: set[int], repeatable: bool) -> bytes | None:
         """The reply to one of our tries; nothing where none comes in time. Where the request may be sent again, a bad

@@ -35,11 +35,12 @@ def free_port() -> int:
 
 
 def await_port(process: subprocess.Popen[bytes], port: int) -> None:
-    """Until qemu waits at its port. It takes one caller, so nobody calls to try: its listening is looked up."""
+    """Until qemu listens at its port. It takes one caller, so nobody calls to try: its listening is looked up."""
     end = time.monotonic() + PATIENCE
     while time.monotonic() < end:
         if process.poll() is not None:
-            raise LineError(f"{EMULATOR} ended with status {process.returncode}")
+            said = process.stderr.read().decode(errors="replace").strip() if process.stderr else ""
+            raise LineError(f"{EMULATOR} ended with status {process.returncode}: {said}")
         if f"0100007F:{port:04X} 00000000:0000 0A" in Path("/proc/net/tcp").read_text(encoding="ascii"):
             return
         time.sleep(0.05)
@@ -51,11 +52,11 @@ def running() -> Iterator[str]:
     """A head that runs; the address to connect to."""
     port = free_port()
     command = [EMULATOR, "-machine", "virt", "-bios", "none", "-display", "none", "-monitor", "none",
-               "-serial", f"tcp:127.0.0.1:{port},server=on,wait=on", "-kernel", str(image())]
-    process = subprocess.Popen(command, start_new_session=True)
+               "-serial", f"tcp:127.0.0.1:{port},server=on,wait=off,nodelay=on", "-kernel", str(image())]
+    process = subprocess.Popen(command, start_new_session=True, stderr=subprocess.PIPE)
     try:
         await_port(process, port)
         yield f"tcp:127.0.0.1:{port}"
     finally:
         process.terminate()
-        process.wait()
+        process.communicate()

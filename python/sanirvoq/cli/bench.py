@@ -2,7 +2,9 @@
 
 from __future__ import annotations
 
+import collections
 import contextlib
+import re
 from dataclasses import dataclass
 from pathlib import Path
 from typing import Callable
@@ -16,6 +18,9 @@ from ..head import Head
 from ..log import Log
 from ..noise import Noise
 from .output import Output
+
+
+KEPT = 1000  # lines that the head said
 
 
 @dataclass
@@ -48,6 +53,8 @@ class Bench:
         if options.protected:
             self.belief.protected = options.protected
         self.text_mode = False
+        self.said: collections.deque[str] = collections.deque(maxlen=KEPT)
+        self._last_said: dict[str, str] = {}
         self._confirm: Callable[[str], bool] | None = None
         self._head: Head | None = None
 
@@ -71,8 +78,16 @@ class Bench:
             settings = Settings(self.options.seconds, self.options.tries)
             self._head = connect(self.options.head, Line(self.options.blocks, settings, self.log, self.options.noise))
             self._head.exchange.notices.restarted.append(self._restarted)
-            self._head.exchange.notices.said.append(lambda line: self.output.notice(f"head: {line}"))
+            self._head.exchange.notices.said.append(self._said)
         return self._head
+
+    def _said(self, line: str) -> None:
+        """A line that the head says by itself: shown where its numbers are others than the last time."""
+        self.said.append(line)
+        form = re.sub(r"[0-9]+", "#", line)
+        if self._last_said.get(form) != line:
+            self._last_said[form] = line
+            self.output.notice(f"head: {line}")
 
     def _restarted(self) -> None:
         stood = len(self.belief.breakpoints)

@@ -8,6 +8,7 @@ from .. import decode as decoding
 from .. import texts, window
 from ..condition import Token, number_of, refuse
 from ..errors import CommandError
+from ..messages import read
 from ..program import ProgramExchange
 from ..registers import COUNT
 from ..registers import number_of as register_number
@@ -60,6 +61,14 @@ def line(bench: Bench, words: Words) -> Result:
     told = (f"{bench.options.head}: {counts.sent} requests sent, {counts.again} of them again, {counts.bad} packets "
             f"came back bad, {counts.resynchronised} times resynchronised")
     return said(told, head=bench.options.head, **vars(counts))
+
+
+def says(bench: Bench, words: Words) -> Result:
+    count = words.number("how many", least=1) if words.more() else 10
+    words.end()
+    bench.head.request(read(0, 0))  # what has come since is taken in with its answer
+    lines = list(bench.said)[-count:]
+    return Result({"said": lines}, list(lines) or ["the head has said nothing by itself"])
 
 
 def show_log(bench: Bench, words: Words) -> Result:
@@ -161,6 +170,8 @@ COMMANDS = [
     Command("line", "line", "what the line did: requests, sent again, bad packets", line, group="line"),
     Command("log", "log [COUNT]", "the last exchanges with their times and meanings (--log FILE keeps all)", show_log,
             group="line"),
+    Command("says", "says [COUNT]", "the last lines that the head said by itself", says,
+            "A line is shown by itself only where its numbers are others than the last time.", "line"),
     Command("decode", "decode FILE [log | frames | blocks]", "tells a log, or a capture of raw bytes", decode,
             group="line"),
     Command("text", "text [LETTER ADDRESS [DATA]]", "a request of the old text dialect; alone: a prompt for it", text,

@@ -68,6 +68,8 @@ def greet(bench: Bench) -> None:
         bench.output.notice(f"the head answers: its window is {base:#x} to {base + size - 1:#x}, {size:,} bytes")
     except BenchError as error:
         bench.output.notice(str(error))
+    except KeyboardInterrupt:
+        bench.output.notice("interrupted: the head has not answered yet")
 
 
 def at_prompt(options: Options, output: Output, name: str) -> int:
