@@ -3,8 +3,10 @@
 #     tests/outside.sh
 # Makes libsanirvoq.a and, for the benchmark, libbench_read.a in target/staticlib from what the gate proved, or takes
 # those of the folder SANIRVOQ_LIB.
-# A check prints 'ok NAME' or 'FAILED NAME'; what it wrote is in target/outside/NAME.log.
-# Needs rt, cargo, gcc, g++, valgrind and python3. The last line is 'N passed, M failed'; exit status 1 unless M is 0.
+# A check prints 'ok NAME' or 'FAILED NAME'; what it wrote is in target/outside/NAME.log. None is left out: where a
+# part of the repository, a program of the gate or a tool is missing, its checks fail.
+# Needs rt, cargo with clippy and rustfmt, gcc, g++, valgrind and python3. The last line is 'N passed, M failed'; exit
+# status 1 unless M is 0.
 set -uo pipefail
 if [ -n "${SANIRVOQ_LIB:-}" ]; then
     SANIRVOQ_LIB=$(realpath -m -- "$SANIRVOQ_LIB")
@@ -12,7 +14,7 @@ if [ -n "${SANIRVOQ_LIB:-}" ]; then
 else
     unset SANIRVOQ_LIB
 fi
-# Programs are looked for in each crate's own target folder.
+# Programs are looked for in the workspace's own target folder.
 unset CARGO_TARGET_DIR
 cd "$(dirname "$0")/.." || exit 1
 library=${SANIRVOQ_LIB:-target/staticlib}/libsanirvoq.a
@@ -40,9 +42,37 @@ crate() {
     cargo "$command" --release --offline --manifest-path "rust/$name/Cargo.toml" "$@"
 }
 
-# Optimizing at link time takes most of a test's build and tests nothing more.
+# The tests of a crate, none of them ignored. Optimizing at link time takes most of a test's build and tests nothing
+# more.
 tests_of() {
-    CARGO_PROFILE_RELEASE_LTO=off crate test "$1"
+    CARGO_PROFILE_RELEASE_LTO=off crate test "$1" | tee "$logs/tests_of_$1.txt" &&
+        ! grep -E '^test .* \.\.\. ignored' "$logs/tests_of_$1.txt"
+}
+
+# All crates of the workspace, with their tests and examples.
+clippy() {
+    cargo clippy --offline --manifest-path rust/Cargo.toml --workspace --all-targets -- -D warnings
+}
+
+rustfmt() {
+    cargo fmt --manifest-path rust/Cargo.toml --all --check
+}
+
+rust_doc() {
+    RUSTDOCFLAGS='-D warnings' cargo doc --offline --manifest-path rust/Cargo.toml --workspace --no-deps
+}
+
+# With no archive (an empty SANIRVOQ_LIB) the wrapper builds, documents and tests, its tests that call the stub say that
+# they are ignored, and a program that calls the stub does not link.
+without_archive() {
+    local said=$logs/without_archive.txt words=(--offline --target-dir rust/target/without_archive --manifest-path)
+    SANIRVOQ_LIB='' cargo build "${words[@]}" rust/sanirvoq/Cargo.toml &&
+        SANIRVOQ_LIB='' cargo doc --no-deps "${words[@]}" rust/sanirvoq/Cargo.toml &&
+        SANIRVOQ_LIB='' cargo test "${words[@]}" rust/sanirvoq/Cargo.toml | tee "$said" &&
+        grep -qE '^test .* ignored, needs libsanirvoq.a$' "$said" &&
+        grep -qE '^test result: ok. [1-9][0-9]* passed; 0 failed; 0 ignored' "$said" &&
+        ! SANIRVOQ_LIB='' cargo build "${words[@]}" rust/compare/Cargo.toml --bin compare 2> "$said" &&
+        grep -E 'undefined (symbol|reference).*sanirvoq_step_request' "$said"
 }
 
 c11() {
@@ -102,25 +132,28 @@ check images_c images_c
 check texts_c texts_c
 check text_steps_c text_steps_c
 check conditions_c conditions_c
+check rustfmt rustfmt
+check clippy clippy
+check rust_doc rust_doc
+check without_archive without_archive
+check archive_calls tests_of sanirvoq-sys
 check wrapper tests_of sanirvoq
 check reference tests_of reference
 check steps tests_of steps
-[ ! -f rust/bench_stub/Cargo.toml ] || check bench_stub tests_of bench_stub
+check bench_stub tests_of bench_stub
 check show_session python3 tests/show_session_test.py
-[ ! -x target/bin/program_main ] || check protocol_examples python3 tests/protocol_examples.py
+check protocol_examples python3 tests/protocol_examples.py
 check text_step_vectors text_step_vectors
 check protocol_text python3 tests/protocol_examples.py --text "$logs/text_step_run"
-[ ! -x target/bin/calls_main ] || check calls_examples python3 tests/calls_examples.py
-[ ! -f tests/calls_vectors.py ] || check calls_vectors python3 tests/calls_vectors.py --check
-[ ! -f tests/wire_vectors.py ] || check wire_vectors python3 tests/wire_vectors.py --check
-[ ! -f tests/frame_vectors.py ] || check frame_vectors python3 tests/frame_vectors.py --check
-[ ! -f tests/program_vectors.py ] || check program_vectors python3 tests/program_vectors.py --check
-if [ -f rust/compare/Cargo.toml ]; then
-    check compare_tests tests_of compare
-    check compare crate run compare -- --seed 1 --steps 300000
-    check compare_frames crate run compare --bin frames -- --seed 1 --lines 100000 --damaged 100000
-    check compare_valgrind under_valgrind rust/compare/target/release/compare --seed 2 --steps 3000
-fi
-[ ! -f rust/bench/Cargo.toml ] || check bench crate build bench
+check calls_examples python3 tests/calls_examples.py
+check calls_vectors python3 tests/calls_vectors.py --check
+check wire_vectors python3 tests/wire_vectors.py --check
+check frame_vectors python3 tests/frame_vectors.py --check
+check program_vectors python3 tests/program_vectors.py --check
+check compare_tests tests_of compare
+check compare crate run compare -- --seed 1 --steps 300000
+check compare_frames crate run compare --bin compare_frames -- --seed 1 --lines 100000 --damaged 100000
+check compare_valgrind under_valgrind rust/target/release/compare --seed 2 --steps 3000
+check bench crate build bench
 echo "$passed passed, $failed failed"
 [ "$failed" -eq 0 ]

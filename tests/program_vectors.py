@@ -950,10 +950,9 @@ SECTIONS = (
 
 def built(name):
     """The program of a Rust crate, without a registry."""
-    crate = ROOT / "rust" / name
-    target = crate / "target"
+    target = ROOT / "rust" / "target"
     subprocess.run(["cargo", "build", "--release", "--offline", "--quiet", "--manifest-path",
-                    str(crate / "Cargo.toml"), "--target-dir", str(target)], check=True)
+                    str(ROOT / "rust" / name / "Cargo.toml"), "--target-dir", str(target)], check=True)
     return str(target / "release" / name)
 
 

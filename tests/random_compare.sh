@@ -7,13 +7,12 @@ cd "$(dirname "$0")/.."
 count=${1:-1000000}
 seed=${2:-7}
 [ -x target/bin/program_main ] || rt check program_main
-for crate in steps reference; do
-    cargo build --release --offline --quiet --manifest-path "rust/$crate/Cargo.toml"
-done
+cargo build --release --offline --quiet --manifest-path rust/Cargo.toml --target-dir rust/target \
+    --package steps --package reference
 room=$(mktemp -d)
 trap 'rm -rf "$room"' EXIT
-rust/steps/target/release/steps "$seed" "$count" > "$room/input"
-rust/reference/target/release/reference < "$room/input" > "$room/expected"
+rust/target/release/steps "$seed" "$count" > "$room/input"
+rust/target/release/reference < "$room/input" > "$room/expected"
 target/bin/program_main < "$room/input" > "$room/output"
 cmp "$room/expected" "$room/output"
 echo "$count random steps (seed $seed), $(stat -c %s "$room/output") bytes of answers: no difference"

@@ -1,5 +1,5 @@
 //! Links the archive that `rt staticlib bench_read` writes: the reads that are timed by themselves.
-//! It is looked for beside the archive of the stub (`rust/sanirvoq/build.rs`).
+//! It is looked for beside the archive of the stub (`rust/sanirvoq-sys/build.rs`).
 
 use std::path::PathBuf;
 

@@ -80,6 +80,7 @@ impl Kernel {
             Ok(Verdict::Pass(plain)) => {
                 format!("Pass: the kernel runs {} elsewhere", hex(&plain))
             }
+            Ok(other) => panic!("this kernel does not know {other:?}"),
             Err(refusal) => format!("refused with number {}", refusal.number()),
         };
         line(&format!("trap of {pid} at {pc:#x}"), &text);
@@ -141,6 +142,7 @@ impl Kernel {
         match served {
             Served::Reply => {}
             Served::ReplyAndPass(plain) => self.go_on(number, plain),
+            other => panic!("this kernel does not know {other:?}"),
         }
         Ok(())
     }

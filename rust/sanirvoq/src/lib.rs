@@ -2,14 +2,19 @@
 //!
 //! The stub itself is the archive `libsanirvoq.a`, which `rt staticlib sanirvoq` writes from what the
 //! checker proved. This crate calls it with slices and answers with enums, and has no code of the
-//! stub.
+//! stub. It has no unsafe code either: that is in [`sanirvoq_sys`], which also says how the archive is
+//! found.
 //!
 //! The kernel keeps a [`Stub`] and lends its memory window and its register area to every step. The
 //! borrow rules give what the archive asks of its caller: buffers that are valid, apart from each
 //! other, and left alone by others during the call. So no call here is unsafe, whatever the record,
 //! the sizes and the bytes are; what does not fit is refused by a [`Refusal`].
 //!
-//! ```
+//! Numbers and answers of a later archive that this edition does not know are an `Other`; nothing
+//! panics over them.
+//!
+#![cfg_attr(archive, doc = "```")]
+#![cfg_attr(not(archive), doc = "```no_run")]
 //! # fn main() -> Result<(), sanirvoq::Refusal> {
 //! use sanirvoq::{Served, Stub, BLOCK, MESSAGE};
 //!
@@ -35,39 +40,34 @@
 //! ```
 
 #![no_std]
-#![deny(unsafe_code, missing_docs)]
+#![forbid(unsafe_code)]
+#![deny(missing_docs)]
+#![warn(clippy::must_use_candidate)]
+#![cfg_attr(not(test), deny(clippy::expect_used, clippy::panic, clippy::unreachable))]
+#![cfg_attr(not(test), deny(clippy::unwrap_used))]
 
-#[allow(unsafe_code)]
-pub mod call;
-#[allow(unsafe_code)]
-pub mod ffi;
 mod frame;
 mod image;
 mod message;
-mod places;
 mod refusal;
 mod stub;
 mod text;
 mod text_step;
 
-pub use ffi::{FrameReader, Run, TextPacket};
 pub use frame::{frame_reply, Answer, Answers, Frames, NotFramed};
 pub use image::{differences, NotCompared};
-pub use message::{read, write, Message, Reason};
-pub use places::Element;
+pub use message::{Message, Reason};
 pub use refusal::Refusal;
+pub use sanirvoq_sys::ffi::{FrameReader, Run};
+pub use sanirvoq_sys::{call, ffi, Element, BLOCK, MESSAGE};
 pub use stub::{Served, Stub, Verdict};
-pub use text::{read_text, write_text, NotText};
+pub use text::{NotText, TextPacket};
 pub use text_step::{Errno, Space, TextReply, TextRequest, TextServed};
 
-/// The bytes of a message, of a request and of a reply.
-pub const MESSAGE: usize = 10;
-/// The bytes of one process in the register area: 32 registers, status, pc, four bytes each.
-pub const BLOCK: usize = 136;
 /// The bytes of the longest image that [`differences`] takes.
 pub const IMAGE: usize = 65_536;
-/// The bytes of the longest text of a packet, which the buffers of [`write_text`] and of
-/// [`Stub::text`] must have.
+/// The bytes of the longest text of a packet, which the buffers of [`TextPacket::encode`]
+/// and of [`Stub::text`] must have.
 pub const TEXT: usize = 34;
 /// The bytes of the shortest buffer that [`Frames`] takes: the longest body and its checksum.
 pub const FRAME_BUFFER: usize = 534;

@@ -5,48 +5,68 @@ use core::fmt;
 /// Why a step was refused; the numbers are those of document 01's table, which document 02 continues
 /// and whose 0 is `Ok` here.
 #[derive(Debug, Clone, Copy, PartialEq, Eq, Hash)]
+#[non_exhaustive]
 pub enum Refusal {
     /// A setup rule is broken.
-    Setup = 1,
+    Setup,
     /// A lent buffer, request, reply, saved block or message has the wrong size.
-    Size = 2,
+    Size,
     /// The record is not fit.
-    Unfit = 3,
+    Unfit,
     /// An event names an unlisted pid.
-    Unlisted = 4,
+    Unlisted,
     /// A trap or state event of a Stopped process, or a state event with value 8.
-    Stopped = 5,
+    Stopped,
     /// A trap whose pc is at no breakpoint.
-    NoSite = 6,
+    NoSite,
     /// The writer was given no message, or the reader bytes of none.
-    NoMessage = 7,
+    NoMessage,
     /// The bytes of a text request are no packet's text.
-    NoPacket = 10,
+    NoPacket,
     /// The buffer for the reply to a text request is shorter than [`TEXT`](crate::TEXT).
-    TextBuffer = 11,
+    TextBuffer,
+    /// A number that this edition has no name for.
+    Other(u8),
 }
 
 impl Refusal {
+    /// All that have a name.
+    pub const ALL: [Self; 9] = [
+        Self::Setup,
+        Self::Size,
+        Self::Unfit,
+        Self::Unlisted,
+        Self::Stopped,
+        Self::NoSite,
+        Self::NoMessage,
+        Self::NoPacket,
+        Self::TextBuffer,
+    ];
+
     /// The number in document 01's table.
+    #[must_use]
     pub fn number(self) -> u8 {
-        self as u8
+        match self {
+            Self::Setup => 1,
+            Self::Size => 2,
+            Self::Unfit => 3,
+            Self::Unlisted => 4,
+            Self::Stopped => 5,
+            Self::NoSite => 6,
+            Self::NoMessage => 7,
+            Self::NoPacket => 10,
+            Self::TextBuffer => 11,
+            Self::Other(number) => number,
+        }
     }
 
-    /// What a number of the archive says. It is proved to be one of these.
+    /// What a number of the archive says.
     pub(crate) fn check(number: u8) -> Result<(), Self> {
-        Err(match number {
-            0 => return Ok(()),
-            1 => Self::Setup,
-            2 => Self::Size,
-            3 => Self::Unfit,
-            4 => Self::Unlisted,
-            5 => Self::Stopped,
-            6 => Self::NoSite,
-            7 => Self::NoMessage,
-            10 => Self::NoPacket,
-            11 => Self::TextBuffer,
-            other => unreachable!("the archive answered number {other}"),
-        })
+        if number == 0 {
+            return Ok(());
+        }
+        let named = Self::ALL.into_iter().find(|refusal| refusal.number() == number);
+        Err(named.unwrap_or(Self::Other(number)))
     }
 }
 
@@ -62,6 +82,7 @@ impl fmt::Display for Refusal {
             Self::NoMessage => "no message",
             Self::NoPacket => "no text packet",
             Self::TextBuffer => "the buffer is shorter than the longest text",
+            Self::Other(number) => return write!(f, "refused with number {number}"),
         })
     }
 }
@@ -73,16 +94,19 @@ mod tests {
     use super::*;
 
     #[test]
-    fn numbers_are_those_of_the_table() {
+    fn every_number_is_kept() {
         assert_eq!(Refusal::check(0), Ok(()));
-        for number in (1..=7).chain([10, 11]) {
+        for number in 1..=255 {
             assert_eq!(Refusal::check(number).map_err(Refusal::number), Err(number));
         }
     }
 
     #[test]
-    #[should_panic(expected = "number 8")]
-    fn another_number_is_no_refusal() {
-        let _ = Refusal::check(8);
+    fn numbers_with_a_name_have_it() {
+        assert_eq!(Refusal::ALL.map(Refusal::number), [1, 2, 3, 4, 5, 6, 7, 10, 11]);
+        for refusal in Refusal::ALL {
+            assert_eq!(Refusal::check(refusal.number()), Err(refusal));
+        }
+        assert_eq!(Refusal::check(8), Err(Refusal::Other(8)));
     }
 }

@@ -1,20 +1,25 @@
 //! The steps of the stub over slices.
 
-use crate::call::{Kind, Lent};
-use crate::ffi::{Process, Record, Target};
-use crate::{write_text, Refusal, TextReply, TextRequest, TextServed, TEXT};
+use crate::{Refusal, TextPacket, TextReply, TextRequest, TextServed, TEXT};
+use sanirvoq_sys::call::{self, Kind, Lent};
+use sanirvoq_sys::ffi::{Process, Record, Target};
 
 /// What the kernel is to do with a process that ran into a trap.
 #[derive(Debug, Clone, Copy, PartialEq, Eq)]
+#[non_exhaustive]
+#[must_use = "it says whether the process may run on, and how"]
 pub enum Verdict {
     /// The breakpoint of this id stops the process: it is not to run on.
     Stop(u8),
     /// The process runs on: these two bytes of the program are to be run elsewhere.
     Pass([u8; 2]),
+    /// An answer that this edition has no name for.
+    Other([u8; 3]),
 }
 
 /// What a served request leaves to the kernel, beside sending the reply.
 #[derive(Debug, Clone, Copy, PartialEq, Eq)]
+#[non_exhaustive]
 #[must_use = "a process that goes on at a breakpoint needs its two bytes run elsewhere"]
 pub enum Served {
     /// Nothing.
@@ -23,6 +28,8 @@ pub enum Served {
     /// are to be run elsewhere, with the registers of the process's block, then the process goes on
     /// behind them. Let go at the site itself it would only run into the trap again.
     ReplyAndPass([u8; 2]),
+    /// An answer that this edition has no name for.
+    Other([u8; 3]),
 }
 
 /// The stub's record: the window's place, the processes, the breakpoints and their conditions. It
@@ -106,7 +113,7 @@ impl Stub {
         block: &[u8],
     ) -> Result<bool, Refusal> {
         let lent = Lent { pid, input: block, ..self.lent(memory, registers) };
-        answer(lent.call(Kind::Schedule)).map(|[stops, ..]| stops == 1)
+        answer(lent.call(Kind::Schedule)).map(|[stops, ..]| stops != 0)
     }
 
     /// The kernel gives a process another state byte. Refused with [`Refusal::Size`], `Unfit`,
@@ -138,7 +145,8 @@ impl Stub {
     /// rest stays; the text may say an error. Refused, in this order, with [`Refusal::Size`] (of memory
     /// or registers), `Unfit`, `TextBuffer` or `NoPacket`.
     ///
-    /// ```
+    #[cfg_attr(archive, doc = "```")]
+    #[cfg_attr(not(archive), doc = "```no_run")]
     /// # fn main() -> Result<(), sanirvoq::Refusal> {
     /// use sanirvoq::{Stub, BLOCK, TEXT};
     ///
@@ -166,7 +174,8 @@ impl Stub {
     /// Serves a text request that is given as a value: writes its text, serves that and reads the reply.
     /// Refused with [`Refusal::Size`] or [`Refusal::Unfit`].
     ///
-    /// ```
+    #[cfg_attr(archive, doc = "```")]
+    #[cfg_attr(not(archive), doc = "```no_run")]
     /// # fn main() -> Result<(), sanirvoq::Refusal> {
     /// use sanirvoq::{Errno, Space, Stub, TextRequest, BLOCK};
     ///
@@ -187,17 +196,20 @@ impl Stub {
         request: TextRequest,
     ) -> Result<TextReply, Refusal> {
         let (mut text, mut reply) = ([0; TEXT], [0; TEXT]);
-        let request = write_text(request.into(), &mut text);
-        let request = request.expect("the buffer is long enough and the letter in its range");
+        // Its buffer is long enough and its letter in the range, so it is proved to be written.
+        let written = call::text_write(TextPacket::from(request).into(), &mut text);
+        let request = &text[..written.filled as usize];
         self.text(memory, registers, request, &mut reply).map(|served| served.reply())
     }
 
     /// A stub of any record: one that is not fit is refused by every step.
+    #[must_use]
     pub fn from_raw(record: Record) -> Self {
         Self { record }
     }
 
     /// The record; its methods show the conditions that it has.
+    #[must_use]
     pub fn raw(&self) -> &Record {
         &self.record
     }
@@ -215,21 +227,21 @@ fn answer(result: u32) -> Result<[u8; 3], Refusal> {
     Refusal::check(number).map(|()| answer)
 }
 
-/// The answer of an accepted request. It is proved to be one of these.
+/// The answer of an accepted request.
 fn served(answer: [u8; 3]) -> Served {
     match answer {
         [0, _, _] => Served::Reply,
         [2, first, second] => Served::ReplyAndPass([first, second]),
-        other => unreachable!("the archive answered a request with {other:?}"),
+        other => Served::Other(other),
     }
 }
 
-/// The answer of an accepted trap. It is proved to be one of these.
+/// The answer of an accepted trap.
 fn verdict(answer: [u8; 3]) -> Verdict {
     match answer {
         [1, id, _] => Verdict::Stop(id),
         [2, first, second] => Verdict::Pass([first, second]),
-        other => unreachable!("the archive answered a trap with {other:?}"),
+        other => Verdict::Other(other),
     }
 }
 
@@ -247,11 +259,13 @@ mod tests {
     fn a_request_answers_the_reply_alone_or_with_pass() {
         assert_eq!(served([0, 0, 0]), Served::Reply);
         assert_eq!(served([2, 8, 9]), Served::ReplyAndPass([8, 9]));
+        assert_eq!(served([1, 8, 9]), Served::Other([1, 8, 9]));
     }
 
     #[test]
     fn a_trap_answers_stop_or_pass() {
         assert_eq!(verdict([1, 255, 0]), Verdict::Stop(255));
         assert_eq!(verdict([2, 8, 9]), Verdict::Pass([8, 9]));
+        assert_eq!(verdict([0, 8, 9]), Verdict::Other([0, 8, 9]));
     }
 }

@@ -1,12 +1,13 @@
 //! Requests of the text dialect over a stub, and their replies.
 
-use crate::ffi::TextPacket;
-use crate::read_text;
+use crate::TextPacket;
 use core::fmt;
+use sanirvoq_sys::call;
 
 /// The space that a word is read from or written to. This target has one for both, so that the two
 /// differ by the request's letter alone.
 #[derive(Debug, Clone, Copy, PartialEq, Eq, Hash)]
+#[non_exhaustive]
 pub enum Space {
     /// Letters `i` and `I`.
     Instruction,
@@ -17,6 +18,7 @@ pub enum Space {
 /// A text request that a stub serves. Any numbers make a request; what cannot be served is answered
 /// with an [`Errno`].
 #[derive(Debug, Clone, Copy, PartialEq, Eq, Hash)]
+#[non_exhaustive]
 pub enum TextRequest {
     /// Reads the word at an address, low-order byte first, as it is without traps.
     ReadWord {
@@ -50,7 +52,7 @@ pub enum TextRequest {
 }
 
 impl From<TextRequest> for TextPacket {
-    /// The request as a packet, for [`write_text`](crate::write_text). Its PID is 0, the only one
+    /// The request as a packet, for [`TextPacket::encode`]. Its PID is 0, the only one
     /// that is served; so is DATA where the request has none.
     fn from(request: TextRequest) -> Self {
         let (letter, third, fourth) = match request {
@@ -69,30 +71,42 @@ impl From<TextRequest> for TextPacket {
 
 /// Why a text request could not be served; the numbers are those of UNIX.
 #[derive(Debug, Clone, Copy, PartialEq, Eq, Hash)]
+#[non_exhaustive]
 pub enum Errno {
     /// The PID is not 0; or a register is named, and no process is current.
-    Esrch = 3,
+    Esrch,
     /// The word is not all in the window.
-    Efault = 14,
+    Efault,
     /// A register is named, and the current process is not Stopped.
-    Ebusy = 16,
+    Ebusy,
     /// The letter is not served, the address is no multiple of 4, or the register is over 33 or is
     /// register 0 and to be written.
-    Einval = 22,
+    Einval,
+    /// A number that this edition has no name for.
+    Other(u32),
 }
 
 impl Errno {
-    /// All of them.
+    /// All that have a name.
     pub const ALL: [Self; 4] = [Self::Esrch, Self::Efault, Self::Ebusy, Self::Einval];
 
     /// The number in the reply's RESPONSE.
+    #[must_use]
     pub fn number(self) -> u32 {
-        self as u32
+        match self {
+            Self::Esrch => 3,
+            Self::Efault => 14,
+            Self::Ebusy => 16,
+            Self::Einval => 22,
+            Self::Other(number) => number,
+        }
     }
 
     /// The one with this number.
-    pub fn from_number(number: u32) -> Option<Self> {
-        Self::ALL.into_iter().find(|errno| errno.number() == number)
+    #[must_use]
+    pub fn from_number(number: u32) -> Self {
+        let named = Self::ALL.into_iter().find(|errno| errno.number() == number);
+        named.unwrap_or(Self::Other(number))
     }
 }
 
@@ -103,6 +117,7 @@ impl fmt::Display for Errno {
             Self::Efault => "bad address",
             Self::Ebusy => "the process is not stopped",
             Self::Einval => "invalid argument",
+            Self::Other(number) => return write!(f, "errno {number}"),
         })
     }
 }
@@ -115,20 +130,22 @@ pub type TextReply = Result<u32, Errno>;
 
 impl TextPacket {
     /// What the packet says as a reply of the stub, for the host's side. None where its error flag is
-    /// neither 0 nor -1, or no [`Errno`] follows.
+    /// neither 0 nor -1.
     ///
-    /// ```
-    /// use sanirvoq::{read_text, Errno};
+    #[cfg_attr(archive, doc = "```")]
+    #[cfg_attr(not(archive), doc = "```no_run")]
+    /// use sanirvoq::{Errno, TextPacket};
     ///
-    /// assert_eq!(read_text(b"0x0 i 0x0 0x7060504")?.reply(), Some(Ok(0x0706_0504)));
-    /// assert_eq!(read_text(b"0x0 c 0xffffffff 0x16")?.reply(), Some(Err(Errno::Einval)));
-    /// assert_eq!(read_text(b"0x0 i 0xff 0x16")?.reply(), None);
-    /// # Ok::<(), sanirvoq::NotText>(())
+    /// let said = |text: &[u8]| TextPacket::decode(text).map(|packet| packet.reply());
+    /// assert_eq!(said(b"0x0 i 0x0 0x7060504"), Ok(Some(Ok(0x0706_0504))));
+    /// assert_eq!(said(b"0x0 c 0xffffffff 0x16"), Ok(Some(Err(Errno::Einval))));
+    /// assert_eq!(said(b"0x0 i 0xff 0x16"), Ok(None));
     /// ```
+    #[must_use]
     pub fn reply(&self) -> Option<TextReply> {
         match self.third {
             0 => Some(Ok(self.fourth)),
-            u32::MAX => Errno::from_number(self.fourth).map(Err),
+            u32::MAX => Some(Err(Errno::from_number(self.fourth))),
             _ => None,
         }
     }
@@ -136,36 +153,39 @@ impl TextPacket {
 
 /// A text request that was answered.
 #[derive(Debug, Clone, Copy, PartialEq, Eq)]
+#[must_use = "the text is the reply to the host"]
 pub struct TextServed<'a> {
     text: &'a [u8],
     carried_out: bool,
 }
 
 impl<'a> TextServed<'a> {
-    /// What the archive answered: the text, and 1 where it says an error. It is proved to be 0 or 1.
+    /// What the archive answered: the text, and 0 where it says no error.
     pub(crate) fn new(text: &'a [u8], error: u8) -> Self {
-        let carried_out = match error {
-            0 => true,
-            1 => false,
-            other => unreachable!("the archive answered a text request with {other}"),
-        };
-        Self { text, carried_out }
+        Self { text, carried_out: error == 0 }
     }
 
     /// The reply's text, to be sent to the host: the part of the buffer that was filled.
+    #[must_use]
     pub fn text(&self) -> &'a [u8] {
         self.text
     }
 
     /// Whether the request was carried out; if not, the reply says an error and nothing was changed.
+    #[must_use]
     pub fn is_carried_out(&self) -> bool {
         self.carried_out
     }
 
     /// What the text says.
     pub fn reply(&self) -> TextReply {
-        let reply = read_text(self.text).ok().and_then(|packet| packet.reply());
-        reply.expect("the archive is proved to write a packet with an error flag of 0 or -1")
+        // The text is proved to be a packet's.
+        let response = call::text_read(self.text).packet.fourth;
+        if self.carried_out {
+            Ok(response)
+        } else {
+            Err(Errno::from_number(response))
+        }
     }
 }
 
@@ -178,7 +198,9 @@ mod tests {
         assert_eq!(Errno::ALL.map(Errno::number), [3, 14, 16, 22]);
         for number in 0..256 {
             let listed = [3, 14, 16, 22].contains(&number);
-            assert_eq!(Errno::from_number(number).map(Errno::number), listed.then_some(number));
+            let errno = Errno::from_number(number);
+            assert_eq!(errno.number(), number);
+            assert_eq!(errno == Errno::Other(number), !listed);
         }
     }
 
@@ -198,8 +220,11 @@ mod tests {
     }
 
     #[test]
-    #[should_panic(expected = "with 2")]
-    fn another_answer_is_none() {
-        TextServed::new(b"", 2);
+    fn a_flag_that_is_no_flag_is_no_reply() {
+        let packet = |third, fourth| TextPacket { pid: 0, letter: b'i', third, fourth };
+        assert_eq!(packet(0, 16).reply(), Some(Ok(16)));
+        assert_eq!(packet(u32::MAX, 16).reply(), Some(Err(Errno::Ebusy)));
+        assert_eq!(packet(u32::MAX, 99).reply(), Some(Err(Errno::Other(99))));
+        assert_eq!(packet(1, 16).reply(), None);
     }
 }

@@ -27,6 +27,7 @@ fn in_hand(stub: &Stub) -> Option<Vec<(u8, u32)>> {
 }
 
 #[test]
+#[cfg_attr(not(archive), ignore = "needs libsanirvoq.a")]
 fn a_condition_has_up_to_64_elements() {
     let mut s = Session::worked();
     for letter in *b"kp*&=!ao" {
@@ -44,6 +45,7 @@ fn a_condition_has_up_to_64_elements() {
 }
 
 #[test]
+#[cfg_attr(not(archive), ignore = "needs libsanirvoq.a")]
 fn all_conditions_share_128_places() {
     let mut s = Session::worked();
     s.plant(1, &longest(5), 4_104);
@@ -63,6 +65,7 @@ fn all_conditions_share_128_places() {
 }
 
 #[test]
+#[cfg_attr(not(archive), ignore = "needs libsanirvoq.a")]
 fn conditions_stand_by_index_then_the_one_in_hand() {
     let mut s = Session::worked();
     let list = |first: u32, count: u32| -> Vec<(u8, u32)> {
@@ -87,6 +90,7 @@ fn conditions_stand_by_index_then_the_one_in_hand() {
 
 /// What the layout leaves no choice in, besides the places that are held.
 #[test]
+#[cfg_attr(not(archive), ignore = "needs libsanirvoq.a")]
 fn entries_are_stored_whole() {
     let mut s = Session::worked();
     s.plant(4, &[(b'k', 7), (b'a', 0)], 4_104);

@@ -23,6 +23,7 @@ const fn request(sequence: u8) -> Answer {
 }
 
 #[test]
+#[cfg_attr(not(archive), ignore = "needs libsanirvoq.a")]
 fn packets_come_one_after_the_other() {
     let empty = Answer::Packet { id: 0x4095_0000, size: 0, request: None };
     let line = [&reply(5)[..], &[1, 0x1e, 2], &EMPTY, &reply(255)].concat();
@@ -30,6 +31,7 @@ fn packets_come_one_after_the_other() {
 }
 
 #[test]
+#[cfg_attr(not(archive), ignore = "needs libsanirvoq.a")]
 fn every_cut_gives_the_same() {
     let line = reply(9);
     for cut in 0..=line.len() {
@@ -45,6 +47,7 @@ fn every_cut_gives_the_same() {
 }
 
 #[test]
+#[cfg_attr(not(archive), ignore = "needs libsanirvoq.a")]
 fn faults_are_answered_where_they_show() {
     let mut line = reply(3);
     line[23] ^= 1;
@@ -58,6 +61,7 @@ fn faults_are_answered_where_they_show() {
 }
 
 #[test]
+#[cfg_attr(not(archive), ignore = "needs libsanirvoq.a")]
 fn any_reader_reads_a_packet() {
     let spoiled = FrameReader {
         last: u64::MAX,
@@ -75,6 +79,7 @@ fn any_reader_reads_a_packet() {
 }
 
 #[test]
+#[cfg_attr(not(archive), ignore = "needs libsanirvoq.a")]
 fn refusals() {
     assert_eq!(Frames::new(&mut [0; FRAME_BUFFER - 1]).err(), Some(NotFramed::Frame));
     let mut line = [7; FRAMED_REPLY];

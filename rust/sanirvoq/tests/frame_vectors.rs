@@ -45,6 +45,7 @@ fn told(frames: &mut Frames, pieces: &str) -> String {
                 }
                 Some(Answer::BadHeader) => "header".to_string(),
                 Some(Answer::BadBody { index, sequence }) => format!("body:{index}:{sequence}"),
+                Some(other) => panic!("{other:?}"),
             };
             let sign = if text.is_empty() { "" } else { ";" };
             write!(text, "{sign}{at}:{what}").expect("a text");
@@ -59,6 +60,7 @@ fn told(frames: &mut Frames, pieces: &str) -> String {
 }
 
 #[test]
+#[cfg_attr(not(archive), ignore = "needs libsanirvoq.a")]
 fn stored_lines() {
     for line in STORED.lines() {
         let [name, from, pieces, answers] = line.split(' ').collect::<Vec<_>>()[..] else {

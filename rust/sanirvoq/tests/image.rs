@@ -20,6 +20,7 @@ fn compared(a: &[u8], b: &[u8], room: usize) -> Result<(Vec<Run>, Vec<Run>), Not
 }
 
 #[test]
+#[cfg_attr(not(archive), ignore = "needs libsanirvoq.a")]
 fn the_part_that_is_filled_is_given() {
     let (a, b) = ([1, 2, 3, 4, 5, 6], [0, 2, 9, 9, 5, 7]);
     let runs = vec![run(0, 1), run(2, 2), run(5, 1)];
@@ -28,12 +29,14 @@ fn the_part_that_is_filled_is_given() {
 }
 
 #[test]
+#[cfg_attr(not(archive), ignore = "needs libsanirvoq.a")]
 fn equal_images_need_no_room() {
     assert_eq!(compared(&[], &[], 0), Ok((vec![], vec![])));
     assert_eq!(compared(&[7; 300], &[7; 300], 1), Ok((vec![], vec![OTHER])));
 }
 
 #[test]
+#[cfg_attr(not(archive), ignore = "needs libsanirvoq.a")]
 fn a_list_without_room_stays_and_the_runs_are_counted() {
     let needed = NotCompared::RunList { needed: 2 };
     assert_eq!(compared(&[1, 2, 3], &[0, 2, 0], 1), Err(needed));
@@ -42,6 +45,7 @@ fn a_list_without_room_stays_and_the_runs_are_counted() {
 }
 
 #[test]
+#[cfg_attr(not(archive), ignore = "needs libsanirvoq.a")]
 fn the_longest_images_are_compared_and_longer_ones_are_refused() {
     let (zeros, ones) = (vec![0; IMAGE + 1], vec![1; IMAGE + 1]);
     let all = vec![run(0, 65_536)];
@@ -53,6 +57,7 @@ fn the_longest_images_are_compared_and_longer_ones_are_refused() {
 }
 
 #[test]
+#[cfg_attr(not(archive), ignore = "needs libsanirvoq.a")]
 fn every_other_byte_is_a_run() {
     let zeros = vec![0; IMAGE];
     let ones: Vec<u8> = (0..IMAGE).map(|i| (i % 2) as u8).collect();
@@ -63,6 +68,7 @@ fn every_other_byte_is_a_run() {
 }
 
 #[test]
+#[cfg_attr(not(archive), ignore = "needs libsanirvoq.a")]
 fn an_odd_place_is_no_room() {
     let mut list = [0xeeee_eeee; 3];
     let done = image_differences(&[1, 2, 3], &[0, 2, 0], &mut list);

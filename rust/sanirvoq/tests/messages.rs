@@ -3,12 +3,12 @@
 mod common;
 
 use common::*;
-use sanirvoq::{read, write, Message, Reason, Refusal, MESSAGE};
+use sanirvoq::{Message, Reason, Refusal, MESSAGE};
 
 /// What the writer answers; a refused one must leave the buffer.
 fn written(message: Message) -> Result<[u8; MESSAGE], Refusal> {
     let mut buffer = [0xee; MESSAGE];
-    let done = write(&message, &mut buffer);
+    let done = message.encode_to(&mut buffer);
     if done.is_err() {
         assert_eq!(buffer, [0xee; MESSAGE]);
     }
@@ -43,26 +43,30 @@ fn every_kind() -> [(Message, [u8; MESSAGE]); 17] {
 }
 
 #[test]
+#[cfg_attr(not(archive), ignore = "needs libsanirvoq.a")]
 fn every_kind_has_its_bytes() {
     for (message, bytes) in every_kind() {
-        assert_eq!(written(message), Ok(bytes), "{message:?}");
-        assert_eq!(read(&bytes), Ok(message));
+        assert_eq!(written(message), Ok(bytes), "{message}");
+        assert_eq!(message.try_into(), Ok(bytes));
+        assert_eq!(bytes.try_into(), Ok(message));
+        assert_eq!(Message::decode(&bytes), Ok(message));
     }
 }
 
 #[test]
+#[cfg_attr(not(archive), ignore = "needs libsanirvoq.a")]
 fn reasons_and_states_have_their_texts() {
     let reasons = ["reset", "count", "unk", "inval", "pid", "unsup", "notstop"];
     for (reason, text) in Reason::ALL.into_iter().zip(reasons) {
         assert_eq!(written(Message::Rerr(reason)), Ok(rerr(text)));
-        assert_eq!(read(&rerr(text)), Ok(Message::Rerr(reason)));
+        assert_eq!(Message::decode(&rerr(text)), Ok(Message::Rerr(reason)));
     }
     let names = "Dead Moribund Ready Scheding Running Queueing Wakeme Broken Stopped Rendezvou";
     let named = names.split(' ').map(str::to_owned);
     for (state, text) in (0..=255).zip(named.chain((10..=255).map(|state| format!("{state:x}")))) {
         let bytes = ten(9, text.as_bytes());
         assert_eq!(written(Message::Rstatus(state)), Ok(bytes), "{state}");
-        assert_eq!(read(&bytes), Ok(Message::Rstatus(state)));
+        assert_eq!(Message::decode(&bytes), Ok(Message::Rstatus(state)));
     }
 }
 
@@ -85,13 +89,15 @@ fn samples() -> Vec<Message> {
 }
 
 #[test]
+#[cfg_attr(not(archive), ignore = "needs libsanirvoq.a")]
 fn reading_gives_back_what_was_written() {
     for message in samples() {
-        assert_eq!(written(message).and_then(|bytes| read(&bytes)), Ok(message));
+        assert_eq!(written(message).and_then(|bytes| Message::decode(&bytes)), Ok(message));
     }
 }
 
 #[test]
+#[cfg_attr(not(archive), ignore = "needs libsanirvoq.a")]
 fn the_writer_refuses_what_is_no_message() {
     let none = [
         Message::Tmget { addr: 0x1000, n: 10 },
@@ -110,6 +116,7 @@ fn the_writer_refuses_what_is_no_message() {
 }
 
 #[test]
+#[cfg_attr(not(archive), ignore = "needs libsanirvoq.a")]
 fn the_reader_refuses_what_no_message_writes() {
     let mut none: Vec<_> = [0].into_iter().chain(18..=255).map(|kind| ten(kind, &[])).collect();
     none.extend(["", "RESET", "reset!", "notstop\0x"].map(rerr));
@@ -127,18 +134,19 @@ fn the_reader_refuses_what_no_message_writes() {
         none.push(last);
     }
     for bytes in none {
-        assert_eq!(read(&bytes), Err(Refusal::NoMessage), "{bytes:02x?}");
+        assert_eq!(Message::decode(&bytes), Err(Refusal::NoMessage), "{bytes:02x?}");
     }
 }
 
 #[test]
+#[cfg_attr(not(archive), ignore = "needs libsanirvoq.a")]
 fn sizes_come_before_messages() {
     for length in [0, 9, 11, 20] {
         let mut buffer = vec![0xee; length];
         let none = Message::Tmget { addr: 0, n: 10 };
-        assert_eq!(write(&Message::Rmput, &mut buffer), Err(Refusal::Size));
-        assert_eq!(write(&none, &mut buffer), Err(Refusal::Size));
-        assert_eq!(read(&buffer), Err(Refusal::Size));
+        assert_eq!(Message::Rmput.encode_to(&mut buffer), Err(Refusal::Size));
+        assert_eq!(none.encode_to(&mut buffer), Err(Refusal::Size));
+        assert_eq!(Message::decode(&buffer), Err(Refusal::Size));
         assert_eq!(buffer, vec![0xee; length]);
     }
 }

@@ -4,7 +4,7 @@ mod common;
 
 use common::*;
 use sanirvoq::ffi::{Entry, Record, Target};
-use sanirvoq::{Refusal, Served, Stub, TEXT};
+use sanirvoq::{Refusal, Served, Stub, Verdict, TEXT};
 
 /// A session with breakpoints 3 and 4, a condition in hand, a current and a Stopped process.
 fn used() -> Session {
@@ -14,7 +14,7 @@ fn used() -> Session {
     s.ask(cond(b'n', 9));
     s.ask(cond(b'p', 9));
     s.ask(with(6, 5, &[]));
-    s.trap(7, 4_104).unwrap();
+    assert_eq!(s.trap(7, 4_104), Ok(Verdict::Stop(3)));
     s
 }
 
@@ -59,11 +59,13 @@ fn changed(change: impl FnOnce(&mut Record)) -> Session {
 }
 
 #[test]
+#[cfg_attr(not(archive), ignore = "needs libsanirvoq.a")]
 fn a_used_session_is_fit() {
     assert_eq!(every_step(&used()), [Ok(()); 6]);
 }
 
 #[test]
+#[cfg_attr(not(archive), ignore = "needs libsanirvoq.a")]
 fn lent_buffers_have_one_size() {
     for (memory, registers) in [(63, 272), (68, 272), (0, 272), (64, 271), (64, 273), (64, 0)] {
         let mut s = changed(|record| record.target.current = 6);
@@ -74,6 +76,7 @@ fn lent_buffers_have_one_size() {
 }
 
 #[test]
+#[cfg_attr(not(archive), ignore = "needs libsanirvoq.a")]
 fn requests_replies_and_blocks_have_one_size() {
     let mut s = changed(|record| record.target.current = 6);
     let before = s.clone();
@@ -142,6 +145,7 @@ const SPOILING: [fn(&mut Record); 36] = [
 ];
 
 #[test]
+#[cfg_attr(not(archive), ignore = "needs libsanirvoq.a")]
 fn a_spoiled_record_is_refused_by_every_step() {
     for (i, change) in SPOILING.iter().enumerate() {
         assert_eq!(every_step(&changed(change)), [Err(Refusal::Unfit); 6], "change {i}");
@@ -162,6 +166,7 @@ const HARMLESS: [fn(&mut Record); 9] = [
 ];
 
 #[test]
+#[cfg_attr(not(archive), ignore = "needs libsanirvoq.a")]
 fn what_no_rule_speaks_of_spoils_nothing() {
     for (i, change) in HARMLESS.iter().enumerate() {
         assert_eq!(every_step(&changed(change)), [Ok(()); 6], "change {i}");
@@ -169,6 +174,7 @@ fn what_no_rule_speaks_of_spoils_nothing() {
 }
 
 #[test]
+#[cfg_attr(not(archive), ignore = "needs libsanirvoq.a")]
 fn an_outside_change_of_a_trap_is_refused_until_it_is_put_back() {
     let mut s = used();
     s.memory[8] = 8;
@@ -178,6 +184,7 @@ fn an_outside_change_of_a_trap_is_refused_until_it_is_put_back() {
 }
 
 #[test]
+#[cfg_attr(not(archive), ignore = "needs libsanirvoq.a")]
 fn any_bytes_are_a_record() {
     let s = changed(|record| {
         let site = u32::MAX;
@@ -213,6 +220,7 @@ fn setup(
 }
 
 #[test]
+#[cfg_attr(not(archive), ignore = "needs libsanirvoq.a")]
 fn an_accepted_setup_makes_the_whole_record() {
     for (base, size) in [(B, 4), (B, 65_536), (0xffff_fffc, 4), (0xffff_0000, 65_536)] {
         let mut target = Target { base, size, count: 2, ..Target::default() };
@@ -224,6 +232,7 @@ fn an_accepted_setup_makes_the_whole_record() {
 }
 
 #[test]
+#[cfg_attr(not(archive), ignore = "needs libsanirvoq.a")]
 fn a_broken_setup_rule_leaves_the_empty_record() {
     let empty = (Err(Refusal::Setup), Target::default());
     let windows = [
@@ -248,6 +257,7 @@ fn a_broken_setup_rule_leaves_the_empty_record() {
 }
 
 #[test]
+#[cfg_attr(not(archive), ignore = "needs libsanirvoq.a")]
 fn a_setup_over_wrong_buffers_leaves_the_empty_record() {
     let empty = (Err(Refusal::Size), Target::default());
     for (memory, registers) in [(63, 272), (68, 272), (0, 272), (64, 271), (64, 408), (64, 0)] {
@@ -256,6 +266,7 @@ fn a_setup_over_wrong_buffers_leaves_the_empty_record() {
 }
 
 #[test]
+#[cfg_attr(not(archive), ignore = "needs libsanirvoq.a")]
 fn events_are_refused_in_the_order_of_the_numbers() {
     let mut s = used();
     let before = s.clone();

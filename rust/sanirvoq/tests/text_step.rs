@@ -52,11 +52,13 @@ fn stopped() -> Session {
 }
 
 #[test]
+#[cfg_attr(not(archive), ignore = "needs libsanirvoq.a")]
 fn the_example_of_the_papers() {
     assert_eq!(Session::worked().text("0x0 i 0x1004 0x0"), "0x0 i 0x0 0x7060504");
 }
 
 #[test]
+#[cfg_attr(not(archive), ignore = "needs libsanirvoq.a")]
 fn words_across_two_traps() {
     let mut s = Session::worked();
     s.plant(3, &[], 4_104);
@@ -71,6 +73,7 @@ fn words_across_two_traps() {
 }
 
 #[test]
+#[cfg_attr(not(archive), ignore = "needs libsanirvoq.a")]
 fn registers_high_order_first() {
     let mut s = stopped();
     assert_eq!(s.text("0x0 r 0x21 0x0"), "0x0 r 0x0 0x1008");
@@ -81,6 +84,7 @@ fn registers_high_order_first() {
 }
 
 #[test]
+#[cfg_attr(not(archive), ignore = "needs libsanirvoq.a")]
 fn errors_in_their_order() {
     let mut s = Session::worked();
     for (request, reply) in [
@@ -103,6 +107,7 @@ fn errors_in_their_order() {
 }
 
 #[test]
+#[cfg_attr(not(archive), ignore = "needs libsanirvoq.a")]
 fn the_buffer_comes_after_the_record_and_before_the_text() {
     let (whole, none) = (&b"0x0 i 0x1004 0x0"[..], &b"0x0 i 0x01004 0x0"[..]);
     let mut s = Session::worked();
@@ -124,6 +129,7 @@ fn the_buffer_comes_after_the_record_and_before_the_text() {
 }
 
 #[test]
+#[cfg_attr(not(archive), ignore = "needs libsanirvoq.a")]
 fn typed_requests() {
     let mut s = stopped();
     let read = |space, address| TextRequest::ReadWord { space, address };

@@ -6,6 +6,7 @@ use common::*;
 use sanirvoq::{Refusal, Served, Verdict};
 
 #[test]
+#[cfg_attr(not(archive), ignore = "needs libsanirvoq.a")]
 fn case_1_reads_four_bytes() {
     let mut s = Session::worked();
     let request = [2, 0, 0, 0x10, 4, 4, 0, 0, 0, 0];
@@ -13,6 +14,7 @@ fn case_1_reads_four_bytes() {
 }
 
 #[test]
+#[cfg_attr(not(archive), ignore = "needs libsanirvoq.a")]
 fn case_2_refuses_ten() {
     let mut s = Session::worked();
     let answer = [1, 0x63, 0x6f, 0x75, 0x6e, 0x74, 0, 0, 0, 0];
@@ -20,6 +22,7 @@ fn case_2_refuses_ten() {
 }
 
 #[test]
+#[cfg_attr(not(archive), ignore = "needs libsanirvoq.a")]
 fn case_3_reads_to_the_end_of_the_window() {
     let mut s = Session::worked();
     let answer = [3, 0x37, 0x38, 0x39, 0x3a, 0x3b, 0x3c, 0x3d, 0x3e, 0x3f];
@@ -49,6 +52,7 @@ fn case_5() -> Session {
 }
 
 #[test]
+#[cfg_attr(not(archive), ignore = "needs libsanirvoq.a")]
 fn cases_4_to_6_plant_write_and_remove() {
     let mut s = case_5();
     assert_eq!(s.ask(cond(b'd', 3)), ten(17, &[]));
@@ -59,6 +63,7 @@ fn cases_4_to_6_plant_write_and_remove() {
 }
 
 #[test]
+#[cfg_attr(not(archive), ignore = "needs libsanirvoq.a")]
 fn case_7_names_states() {
     let mut s = Session::worked();
     assert_eq!(s.state(5, 9), Ok(()));
@@ -69,6 +74,7 @@ fn case_7_names_states() {
 }
 
 #[test]
+#[cfg_attr(not(archive), ignore = "needs libsanirvoq.a")]
 fn case_8_makes_current() {
     let mut s = Session::worked();
     let answer = [7, 0x38, 0x30, 0x30, 0x30, 0x31, 0x30, 0x30, 0x30, 0];
@@ -79,6 +85,7 @@ fn case_8_makes_current() {
 }
 
 #[test]
+#[cfg_attr(not(archive), ignore = "needs libsanirvoq.a")]
 fn case_9_stops_one_pid() {
     let mut s = Session::worked();
     s.plant(4, &[(b'k', 7), (b'a', 0)], 4_104);
@@ -89,6 +96,7 @@ fn case_9_stops_one_pid() {
 }
 
 #[test]
+#[cfg_attr(not(archive), ignore = "needs libsanirvoq.a")]
 fn case_10_reads_plain_bytes() {
     let mut s = Session::worked();
     let list = [(b'p', 0x1008), (b'*', 0), (b'p', 0x0b0a_0908), (b'=', 0), (b'a', 0)];
@@ -97,6 +105,7 @@ fn case_10_reads_plain_bytes() {
 }
 
 #[test]
+#[cfg_attr(not(archive), ignore = "needs libsanirvoq.a")]
 fn case_11_refuses() {
     let mut s = Session::worked();
     assert_eq!(s.ask(cond(b'n', 1)), ten(17, &[]));
@@ -109,6 +118,7 @@ fn case_11_refuses() {
 
 /// Not in the worked set: the mark, the event that sees it, and registers read and written.
 #[test]
+#[cfg_attr(not(archive), ignore = "needs libsanirvoq.a")]
 fn a_marked_process_stops_when_it_is_to_run() {
     let mut s = Session::worked();
     assert_eq!(s.schedule(5, 4_100), Ok(false));
@@ -126,6 +136,7 @@ fn a_marked_process_stops_when_it_is_to_run() {
 /// Not in the worked set: a breakpoint stops until it is removed, and what lies under its trap comes
 /// with each continue.
 #[test]
+#[cfg_attr(not(archive), ignore = "needs libsanirvoq.a")]
 fn a_continue_at_a_breakpoint_carries_its_plain_bytes() {
     let mut s = Session::worked();
     s.plant(4, &[], 4_104);
@@ -146,6 +157,7 @@ fn a_continue_at_a_breakpoint_carries_its_plain_bytes() {
 
 /// Not in the worked set: the saved pc is that of the register area as it is lent.
 #[test]
+#[cfg_attr(not(archive), ignore = "needs libsanirvoq.a")]
 fn a_continue_goes_by_the_saved_pc() {
     let mut s = Session::worked();
     s.plant(4, &[], 4_104);

@@ -1,4 +1,4 @@
-//! `frames [--seed N] [--lines N] [--damaged N]` feeds the proved reader and the independent one the
+//! `compare_frames [--seed N] [--lines N] [--damaged N]` feeds the proved reader and the independent one the
 //! same random and damaged lines, cut at random, and frames the same replies. It prints how often
 //! each answer came in each phase, then how many damaged packets the proved reader accepted with
 //! another content; the last line is `no difference`.
@@ -155,7 +155,7 @@ fn line(random: &mut Random, reached: &mut Reached) -> Result<u64, String> {
             taken += 1;
         }
         reached.note(due, answer);
-        same(fed.number == 0 && fed.taken == taken, "the bytes taken", &line)?;
+        same(fed.number == 0 && fed.taken == taken as u64, "the bytes taken", &line)?;
         same(told(&fed) == answer, "the answer", &line)?;
         same(left == right, "the buffer", &line)?;
         let request = answer.is_some_and(Answer::is_request);
@@ -200,7 +200,7 @@ fn cable(random: &mut Random) -> (bool, bool) {
             return (true, true);
         }
         reader = fed.reader;
-        at += fed.taken;
+        at += fed.taken as usize;
     }
     (true, false)
 }

@@ -15,12 +15,14 @@ pub struct Element {
 impl Record {
     /// The first place of the elements of the entry with this index; that of the condition in hand
     /// where there is no such entry. Free entries hold no place.
+    #[must_use]
     pub fn first_place(&self, index: usize) -> usize {
         self.target.table.entries.iter().take(index).map(held).sum()
     }
 
     /// The condition of the breakpoint in the entry with this index, element by element. None where
     /// the entry is free or its elements lie past the last place, which no fit record has.
+    #[must_use]
     pub fn condition(&self, index: usize) -> Option<impl ExactSizeIterator<Item = Element> + '_> {
         let entry = self.target.table.entries.get(index).filter(|entry| entry.used == 1)?;
         self.elements(self.first_place(index), entry.count)
@@ -28,6 +30,7 @@ impl Record {
 
     /// The condition in hand, element by element. None where nothing is in hand or its elements lie
     /// past the last place.
+    #[must_use]
     pub fn in_hand(&self) -> Option<impl ExactSizeIterator<Item = Element> + '_> {
         let draft = &self.target.table.draft;
         let count = (draft.active == 1).then_some(draft.count)?;

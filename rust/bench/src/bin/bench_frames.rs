@@ -1,4 +1,4 @@
-//! `frames` prints the time a byte of the line takes in the proved reader and in the independent
+//! `bench_frames` prints the time a byte of the line takes in the proved reader and in the independent
 //! one, for bodies of several lengths, and the size of the reader.
 
 #![forbid(unsafe_code)]
@@ -15,7 +15,7 @@ fn proved(line: &[u8], buffer: &mut [u8]) -> usize {
     while at < line.len() {
         let fed = call::frame_feed(reader, &line[at..], buffer);
         reader = fed.reader;
-        at += fed.taken;
+        at += fed.taken as usize;
         packets += usize::from(fed.answer.kind == 1);
     }
     packets

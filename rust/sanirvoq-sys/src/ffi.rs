@@ -1,7 +1,10 @@
 //! The archive's functions and records, as `include/sanirvoq.h` has them. What the functions ask of
-//! their caller is said there; the rest of this crate keeps it.
+//! their caller is said there; [`call`](crate::call) keeps it.
 
 use core::mem::{align_of, offset_of, size_of};
+
+/// A length in bytes or places. The archive takes 64 bits on every machine.
+pub type Length = u64;
 
 /// The processes that a record has room for.
 pub const PROCESSES: usize = 4;
@@ -105,7 +108,7 @@ impl Default for Record {
 
 /// A message by its type byte and its fields; see the header for which fields a type uses.
 #[repr(C)]
-#[derive(Debug, Clone, Copy, Default, PartialEq, Eq)]
+#[derive(Debug, Clone, Copy, Default, PartialEq, Eq, Hash)]
 pub struct Fields {
     /// The type byte.
     pub kind: u8,
@@ -209,7 +212,7 @@ pub struct FrameReader {
 
 /// An answer; see the header for which fields a kind uses.
 #[repr(C)]
-#[derive(Debug, Clone, Copy, Default, PartialEq, Eq)]
+#[derive(Debug, Clone, Copy, Default, PartialEq, Eq, Hash)]
 pub struct FrameAnswer {
     /// The logical ID.
     pub id: u32,
@@ -232,7 +235,7 @@ pub struct FrameFed {
     /// The reader after the piece.
     pub reader: FrameReader,
     /// How many bytes of the piece were taken.
-    pub taken: usize,
+    pub taken: Length,
     /// The answer.
     pub answer: FrameAnswer,
     /// 0 or 12.
@@ -258,15 +261,45 @@ const _: () = assert!(size_of::<TextWritten>() == 8 && size_of::<TextFound>() ==
 const _: () = assert!(size_of::<Run>() == 2 * size_of::<u32>());
 const _: () = assert!(align_of::<Run>() == align_of::<u32>());
 
-/// The arguments and the result of every step but the setup, once.
-macro_rules! steps {
-    ($arguments:tt -> $result:ty { $($(#[$doc:meta])* $name:ident),* $(,)? }) => {
-        /// The form of every step but the setup; see the header for which arguments each uses.
-        pub type Step = unsafe extern "C" fn $arguments -> $result;
-
+/// Declares the archive's functions. With no archive to link, for tests, it defines functions in their
+/// place that stop the program and say what is missing.
+macro_rules! exports {
+    ($($(#[$doc:meta])* fn $name:ident($($argument:ident: $type:ty),* $(,)?) -> $result:ty;)*) => {
+        #[cfg(not(stand_in))]
         unsafe extern "C" {
-            $($(#[$doc])* pub fn $name $arguments -> $result;)*
+            $($(#[$doc])* pub fn $name($($argument: $type),*) -> $result;)*
         }
+        $(
+            $(#[$doc])*
+            ///
+            /// # Safety
+            ///
+            /// None is asked for: this stands in for an archive that is not there, and panics.
+            #[cfg(stand_in)]
+            #[allow(clippy::too_many_arguments)]
+            pub unsafe extern "C" fn $name($(_: $type),*) -> $result {
+                panic!(
+                    "{} is not linked: libsanirvoq.a was not there when this was built. Run \
+                     `rt staticlib sanirvoq`, or name its folder by SANIRVOQ_LIB",
+                    stringify!($name)
+                )
+            }
+        )*
+    };
+}
+
+/// Declares the steps that have one form, and the type of that form.
+macro_rules! steps {
+    (($($argument:ident: $type:ty),* $(,)?) -> $result:ty {
+        $($(#[$doc:meta])* $name:ident),* $(,)?
+    }) => {
+        /// The form of every step but the setup; see the header for which arguments each uses.
+        pub type Step = unsafe extern "C" fn($($argument: $type),*) -> $result;
+
+        steps!(@each ($($argument: $type),*) -> $result { $($(#[$doc])* $name),* });
+    };
+    (@each $arguments:tt -> $result:ty { $($(#[$doc:meta])* $name:ident),* }) => {
+        exports! { $($(#[$doc])* fn $name $arguments -> $result;)* }
     };
 }
 
@@ -274,15 +307,15 @@ steps!((
     target: *mut Target,
     places: *mut u32,
     memory: *mut u8,
-    memory_length: usize,
+    memory_length: Length,
     registers: *mut u8,
-    registers_length: usize,
+    registers_length: Length,
     pid: u32,
     value: u8,
     input: *const u8,
-    input_length: usize,
+    input_length: Length,
     reply: *mut u8,
-    reply_length: usize,
+    reply_length: Length,
 ) -> u32 {
     /// A request.
     sanirvoq_step_request,
@@ -298,54 +331,54 @@ steps!((
     sanirvoq_step_text,
 });
 
-unsafe extern "C" {
+exports! {
     /// A setup, which has no places.
-    pub fn sanirvoq_step_setup(
+    fn sanirvoq_step_setup(
         target: *mut Target,
         memory: *mut u8,
-        memory_length: usize,
+        memory_length: Length,
         registers: *mut u8,
-        registers_length: usize,
+        registers_length: Length,
         pid: u32,
         value: u8,
         input: *const u8,
-        input_length: usize,
+        input_length: Length,
         reply: *mut u8,
-        reply_length: usize,
+        reply_length: Length,
     ) -> u32;
     /// Writes a message's ten bytes.
-    pub fn sanirvoq_message_encode(fields: Fields, buffer: *mut u8, length: usize) -> u8;
+    fn sanirvoq_message_encode(fields: Fields, buffer: *mut u8, length: Length) -> u8;
     /// Reads ten bytes.
-    pub fn sanirvoq_message_decode(bytes: *const u8, length: usize) -> Found;
+    fn sanirvoq_message_decode(bytes: *const u8, length: Length) -> Found;
     /// Fills a list with the runs of differing bytes of two images, two places a run.
-    pub fn sanirvoq_image_differences(
+    fn sanirvoq_image_differences(
         a: *const u8,
-        a_length: usize,
+        a_length: Length,
         b: *const u8,
-        b_length: usize,
+        b_length: Length,
         list: *mut u32,
-        places: usize,
+        places: Length,
     ) -> Comparison;
     /// Writes a text packet to the front of a buffer.
-    pub fn sanirvoq_text_encode(packet: TextPacket, buffer: *mut u8, length: usize) -> TextWritten;
+    fn sanirvoq_text_encode(packet: TextPacket, buffer: *mut u8, length: Length) -> TextWritten;
     /// Reads a text packet.
-    pub fn sanirvoq_text_decode(bytes: *const u8, length: usize) -> TextFound;
+    fn sanirvoq_text_decode(bytes: *const u8, length: Length) -> TextFound;
     /// A reader of packets that skips to the next begin byte.
-    pub fn sanirvoq_frame_reader() -> FrameReader;
+    fn sanirvoq_frame_reader() -> FrameReader;
     /// Feeds a piece of the line to a reader, up to the first answer.
-    pub fn sanirvoq_frame_feed(
+    fn sanirvoq_frame_feed(
         reader: FrameReader,
         piece: *const u8,
-        piece_length: usize,
+        piece_length: Length,
         buffer: *mut u8,
-        buffer_length: usize,
+        buffer_length: Length,
     ) -> FrameFed;
     /// Frames a reply of ten bytes.
-    pub fn sanirvoq_frame_reply(
+    fn sanirvoq_frame_reply(
         sequence: u32,
         message: *const u8,
-        message_length: usize,
+        message_length: Length,
         buffer: *mut u8,
-        buffer_length: usize,
+        buffer_length: Length,
     ) -> u8;
 }

@@ -1,10 +1,21 @@
-//! The calls into the archive: the crate's only unsafe code. A step called so answers as the archive
-//! does, in one number; [`Stub`](crate::Stub) answers with enums.
+//! The calls into the archive, over references. Each answers as the archive does, in numbers.
 
-use crate::ffi::{self, Comparison, Fields, Found, FrameFed, FrameReader, Record, Run};
+use crate::ffi::{self, Comparison, Fields, Found, FrameFed, FrameReader, Length, Record, Run};
 use crate::ffi::{TextFound, TextPacket, TextWritten};
 use crate::{BLOCK, MESSAGE};
 use core::slice;
+
+/// A pointer and a length for the archive, which only reads.
+#[inline]
+fn shared<T>(slice: &[T]) -> (*const T, Length) {
+    (slice.as_ptr(), slice.len() as Length)
+}
+
+/// A pointer and a length for the archive, which may write.
+#[inline]
+fn lent<T>(slice: &mut [T]) -> (*mut T, Length) {
+    (slice.as_mut_ptr(), slice.len() as Length)
+}
 
 /// The archive's seven steps.
 #[derive(Debug, Clone, Copy, PartialEq, Eq)]
@@ -38,6 +49,7 @@ impl Kind {
     ];
 
     /// The name that its function ends with.
+    #[must_use]
     pub fn name(self) -> &'static str {
         match self {
             Self::Setup => "setup",
@@ -51,6 +63,7 @@ impl Kind {
     }
 
     /// The bytes of input that it is to be lent, where these are fixed.
+    #[must_use]
     pub fn input(self) -> Option<usize> {
         match self {
             Self::Request => Some(MESSAGE),
@@ -60,12 +73,14 @@ impl Kind {
     }
 
     /// The bytes of reply that it is to be lent, where these are fixed.
+    #[must_use]
     pub fn reply(self) -> Option<usize> {
         matches!(self, Self::Request | Self::Restart).then_some(MESSAGE)
     }
 
     /// Its function; the setup has another form. Inlined, so that a call of a constant kind is a
     /// direct one.
+    #[must_use]
     #[inline(always)]
     pub fn function(self) -> Option<ffi::Step> {
         match self {
@@ -104,15 +119,16 @@ pub struct Lent<'a> {
 
 impl Lent<'_> {
     /// The step's result: its number in the lowest byte, then the three bytes of its answer.
+    #[must_use]
     #[inline(always)]
     pub fn call(self, kind: Kind) -> u32 {
         let Self { record, memory, registers, pid, value, input, reply } = self;
         let target = &raw mut record.target;
         let places = record.places.as_mut_ptr();
-        let (memory, memory_length) = (memory.as_mut_ptr(), memory.len());
-        let (registers, registers_length) = (registers.as_mut_ptr(), registers.len());
-        let (input, input_length) = (input.as_ptr(), input.len());
-        let (reply, reply_length) = (reply.as_mut_ptr(), reply.len());
+        let (memory, memory_length) = lent(memory);
+        let (registers, registers_length) = lent(registers);
+        let (input, input_length) = shared(input);
+        let (reply, reply_length) = lent(reply);
         // SAFETY: A step asks for pointers that are valid for the lengths given, not null, apart
         // from each other and left alone by others during the call; places are 256. Each pointer
         // and its length come from one reference here; references are never null, the target and
@@ -154,90 +170,84 @@ impl Lent<'_> {
 }
 
 /// Writes the message of these fields; answers the number.
-pub(crate) fn write(fields: Fields, buffer: &mut [u8]) -> u8 {
+#[must_use]
+pub fn message_encode(fields: Fields, buffer: &mut [u8]) -> u8 {
+    let (buffer, length) = lent(buffer);
     // SAFETY: The pointer is valid for the length, and nobody else has it: both come from one
     // `&mut`. Any fields may be passed. The function always returns, does not unwind and keeps no
     // pointer.
-    unsafe { ffi::sanirvoq_message_encode(fields, buffer.as_mut_ptr(), buffer.len()) }
+    unsafe { ffi::sanirvoq_message_encode(fields, buffer, length) }
 }
 
 /// The number and the fields that reading these bytes gives.
-pub(crate) fn read(bytes: &[u8]) -> Found {
+#[must_use]
+pub fn message_decode(bytes: &[u8]) -> Found {
+    let (bytes, length) = shared(bytes);
     // SAFETY: The pointer is valid for reading the length: both come from one `&`, and the function
     // takes it as `const`. It always returns, does not unwind and keeps no pointer.
-    unsafe { ffi::sanirvoq_message_decode(bytes.as_ptr(), bytes.len()) }
+    unsafe { ffi::sanirvoq_message_decode(bytes, length) }
 }
 
 /// Where two images differ, in a list of two numbers a run; answers as the archive does.
+#[must_use]
 pub fn image_differences(a: &[u8], b: &[u8], list: &mut [u32]) -> Comparison {
+    let ((a, a_length), (b, b_length)) = (shared(a), shared(b));
+    let (list, places) = lent(list);
     // SAFETY: Each pointer and its length come from one reference; the two `&` are taken as `const`,
     // and nobody else has what the `&mut` lends. The function always returns, does not unwind and
     // keeps no pointer.
-    unsafe {
-        ffi::sanirvoq_image_differences(
-            a.as_ptr(),
-            a.len(),
-            b.as_ptr(),
-            b.len(),
-            list.as_mut_ptr(),
-            list.len(),
-        )
-    }
+    unsafe { ffi::sanirvoq_image_differences(a, a_length, b, b_length, list, places) }
 }
 
 /// A list of runs as the archive takes it.
-pub(crate) fn numbers(list: &mut [Run]) -> &mut [u32] {
+#[must_use]
+pub fn numbers(list: &mut [Run]) -> &mut [u32] {
     // SAFETY: A run is two `u32` and nothing else (asserted in `ffi`), so the memory of the list is
     // that of twice as many numbers, which the result borrows in its place. Any numbers are runs.
     unsafe { slice::from_raw_parts_mut(list.as_mut_ptr().cast(), 2 * list.len()) }
 }
 
 /// Writes a text packet; answers as the archive does.
+#[must_use]
 pub fn text_write(packet: TextPacket, buffer: &mut [u8]) -> TextWritten {
+    let (buffer, length) = lent(buffer);
     // SAFETY: The pointer and the length come from one reference, and nobody else has what it lends.
     // The function always returns, does not unwind and keeps no pointer.
-    unsafe { ffi::sanirvoq_text_encode(packet, buffer.as_mut_ptr(), buffer.len()) }
+    unsafe { ffi::sanirvoq_text_encode(packet, buffer, length) }
 }
 
 /// Reads a text packet; answers as the archive does.
+#[must_use]
 pub fn text_read(bytes: &[u8]) -> TextFound {
+    let (bytes, length) = shared(bytes);
     // SAFETY: The pointer and the length come from one reference, taken as `const`. The function
     // always returns, does not unwind and keeps no pointer.
-    unsafe { ffi::sanirvoq_text_decode(bytes.as_ptr(), bytes.len()) }
+    unsafe { ffi::sanirvoq_text_decode(bytes, length) }
 }
 
 /// A reader of packets that skips to the next begin byte.
+#[must_use]
 pub fn frame_reader() -> FrameReader {
     // SAFETY: The function takes nothing, always returns and does not unwind.
     unsafe { ffi::sanirvoq_frame_reader() }
 }
 
 /// Feeds a piece of the line to a reader; answers as the archive does.
+#[must_use]
 pub fn frame_feed(reader: FrameReader, piece: &[u8], buffer: &mut [u8]) -> FrameFed {
+    let (piece, piece_length) = shared(piece);
+    let (buffer, buffer_length) = lent(buffer);
     // SAFETY: Each pointer and its length come from one reference; the `&` is taken as `const`, and
     // nobody else has what the `&mut` lends. Any numbers are a reader. The function always returns,
     // does not unwind and keeps no pointer.
-    unsafe {
-        ffi::sanirvoq_frame_feed(
-            reader,
-            piece.as_ptr(),
-            piece.len(),
-            buffer.as_mut_ptr(),
-            buffer.len(),
-        )
-    }
+    unsafe { ffi::sanirvoq_frame_feed(reader, piece, piece_length, buffer, buffer_length) }
 }
 
 /// Frames a reply; answers the number.
+#[must_use]
 pub fn frame_reply(sequence: u32, message: &[u8], buffer: &mut [u8]) -> u8 {
+    let (message, message_length) = shared(message);
+    let (buffer, buffer_length) = lent(buffer);
     // SAFETY: As for `frame_feed`.
-    unsafe {
-        ffi::sanirvoq_frame_reply(
-            sequence,
-            message.as_ptr(),
-            message.len(),
-            buffer.as_mut_ptr(),
-            buffer.len(),
-        )
-    }
+    unsafe { ffi::sanirvoq_frame_reply(sequence, message, message_length, buffer, buffer_length) }
 }
