@@ -12,6 +12,7 @@ from .images import differences
 
 COLUMNS = 64
 ROWS = 32
+RULER = 16
 
 
 @dataclass(frozen=True)
@@ -73,18 +74,20 @@ def draw(belief: Belief, base: int, data: bytes, image: tuple[int, bytes] | None
 
 
 def as_text(picture: Picture) -> list[Text]:
-    """Rows of letters in colour, each with its address, and what the letters mean."""
-    lines = []
+    """Rows of letters in colour, each with its address, a ruler above, and what the letters mean."""
+    columns = min(COLUMNS, len(picture.cells))
+    ruler = "".join(f"+{at * picture.cell:<{RULER - 1}x}" for at in range(0, columns, RULER))
+    lines = [Text(" " * 12 + ruler.rstrip(), style="dim")]
     for at in range(0, len(picture.cells), COLUMNS):
         line = Text(f"{picture.base + at * picture.cell:#010x}  ")
         for look in picture.cells[at:at + COLUMNS]:
             line.append(look.letter, style=look.style)
         lines.append(line)
-    legend = Text("one letter is " + ("a byte" if picture.cell == 1 else f"{picture.cell} bytes") + ": ")
-    for look in ORDER:
-        if look in picture.cells:
-            legend.append(look.letter, style=look.style).append(f" {look.meaning}  ")
-    return [*lines, legend]
+    told = "a byte:" if picture.cell == 1 else f"{picture.cell} bytes, of which one is:"
+    lines.append(Text(f"one letter is {told}"))
+    lines += [Text("  ").append(look.letter, style=look.style).append(f" {look.meaning}")
+              for look in ORDER if look in picture.cells]
+    return lines
 
 
 WIDTH, HEIGHT, LEFT, TOP = 12, 16, 96, 40

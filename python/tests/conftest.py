@@ -84,10 +84,22 @@ def pair() -> Iterator[Pair]:
 
 
 @pytest.fixture
-def program() -> Iterator[Head]:
+def program(required: Callable[[bool, str], None]) -> Iterator[Head]:
     """The program of document 01 as a head."""
-    if not (REPOSITORY / "target" / "bin" / "program_main").is_file():
-        pytest.skip("target/bin/program_main is not made: rt check program_main")
+    required((REPOSITORY / "target" / "bin" / "program_main").is_file(), "make it with `rt check program_main`")
     made = connect("program", Line())
     yield made
     made.close()
+
+
+def pytest_addoption(parser: pytest.Parser) -> None:
+    parser.addoption("--require-all", action="store_true", help="what is missing fails, and is not left out")
+
+
+@pytest.fixture
+def required(request: pytest.FixtureRequest) -> Callable[[bool, str], None]:
+    """Says that something is missing: a failure with --require-all, else the test is left out."""
+    def check(there: bool, how: str) -> None:
+        if not there:
+            (pytest.fail if request.config.getoption("--require-all") else pytest.skip)(how)
+    return check

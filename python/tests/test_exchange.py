@@ -182,13 +182,14 @@ def test_bare_continue_is_never_sent_again() -> None:
 
 
 class Scripted:
-    """A line that has its bytes ready."""
+    """A line that brings these bytes after the first request."""
 
     def __init__(self, data: bytes) -> None:
-        self.data = data
+        self.data = b""
+        self._later = data
 
     def send(self, data: bytes) -> None:
-        pass
+        self.data, self._later = self.data + self._later, b""
 
     def receive(self, seconds: float) -> bytes:
         piece, self.data = self.data[:5], self.data[5:]
@@ -199,7 +200,7 @@ class Scripted:
 
 
 def test_what_the_head_says_unasked() -> None:
-    reply = encode(of_process(Kind.TSTOP, 5))[:0] + bytes([Kind.RMPUT]) + bytes(9)
+    reply = bytes([Kind.RMPUT]) + bytes(9)
     data = b"left 412 mm\r\n" + frame(77, rerr("reset")) + frame(200, reply) + b"laser 45 mW\n" + frame(1, reply)
     exchange = FrameExchange(Scripted(data), Log(), Settings(0.2, 1))
     said: list[str] = []

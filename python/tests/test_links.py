@@ -51,7 +51,7 @@ def test_the_head_goes_on_between_two_callers(served: str, command: Callable[...
     again = run("break", "3", "at", "0x1102")
     assert again.status == 2 and "stands already" in again.err
     assert run("delete", "3").status == 0
-    assert "no breakpoint was set from here" in run("list").out
+    assert "no breakpoint of this side stands" in run("list").out
     assert run("delete", "3").status == 3
 
 

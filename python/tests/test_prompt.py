@@ -10,6 +10,8 @@ from typing import Iterator
 import pytest
 from terminal import PROMPT, Person
 
+from sanirvoq import Head
+
 
 @pytest.fixture
 def person(tmp_path: Path) -> Iterator[Person]:
@@ -35,7 +37,7 @@ def test_the_mission(person: Person) -> None:
 def test_a_caret_stands_under_the_fault(person: Person) -> None:
     seen = person.types("break 3 at 0x1009")
     assert seen.index("^") == len(PROMPT) + len("break 3 at ") and "has to be even" in seen
-    assert "no breakpoint was set from here" in person.types("list")
+    assert "no breakpoint of this side stands" in person.types("list")
 
 
 def test_mistakes_do_not_end_it(person: Person) -> None:
@@ -90,7 +92,7 @@ def test_it_says_what_is_left_behind(person: Person) -> None:
 def test_a_restart_is_told(person: Person) -> None:
     person.types("break 3 at 0x1100")
     assert "no breakpoint stands any more (1 stood, as far as known)" in person.types("restart")
-    assert "no breakpoint was set from here" in person.types("list")
+    assert "no breakpoint of this side stands" in person.types("list")
 
 
 def test_interrupted(person: Person, tmp_path: Path) -> None:
@@ -117,7 +119,7 @@ def test_noise(tmp_path: Path) -> None:
     noisy.is_gone()
 
 
-def test_the_program(tmp_path: Path) -> None:
+def test_the_program(tmp_path: Path, program: Head) -> None:
     """The program of document 01, its processes moved by hand."""
     at = Person(tmp_path, "practice", "program")
     at.await_prompt()

@@ -96,7 +96,7 @@ def list_breaks(bench: Bench, words: Words) -> Result:
     data = [{"id": ident, "site": one.site, "if": one.words, "elements": one.count, "set": one.time}
             for ident, one in rows]
     if not rows:
-        return Result({"believed": data}, ["no breakpoint was set from here; the head cannot be asked for others"])
+        return Result({"believed": data}, ["no breakpoint of this side stands; the head cannot be asked for others"])
     cells = [[str(ident), f"{one.site:#010x}", one.time, str(one.count), one.words or "always"] for ident, one in rows]
     lines = table(["id", "site", "set", "elements", "if"], cells, right=["id", "elements"])
     note = "(believed: set from here. The head cannot be asked; a restart or another tool may have changed it)"

@@ -11,7 +11,7 @@ from ..images import Run, differences
 from ..transfer import compare
 from .bench import Bench
 from .command import Command
-from .memory import file_bytes
+from .memory import file_bytes, stays_lines
 from .output import Result, counted, said, table
 from .words import Words
 
@@ -70,7 +70,7 @@ def patch(bench: Bench, words: Words) -> Result:
         return said("nothing was sent", **data, sent=False)
     send(bench, plan)
     told = (f"{counted(plan.differing, 'byte')} changed by {counted(len(plan.writes), 'write')}, read back and the same "
-            f"as the image{stays_of(bench, plan)}")
+            "as the image")
     return said(told, **data, sent=True, same=True)
 
 
@@ -97,17 +97,8 @@ def show_plan(bench: Bench, plan: patches.Plan) -> None:
     lines = [f"{counted(plan.differing, 'byte')} to change, in {counted(len(plan.runs), 'run')}:",
              *runs_table(plan.address, plan.found, plan.wanted, plan.runs),
              f"the plan has {counted(len(plan.writes), 'write')}; no list with fewer does it"]
-    under = covered(bench, plan)
-    if under:
-        which = ", ".join(str(ident) for ident in sorted(set(under.values())))
-        lines.append(f"under breakpoint {which} (believed): {counted(len(under), 'byte')} of these; the trap stays, and "
-                     "the new bytes are there when it goes")
+    lines += stays_lines(covered(bench, plan))
     bench.output.show("patch", Result(shown=list(lines)))
-
-
-def stays_of(bench: Bench, plan: patches.Plan) -> str:
-    under = covered(bench, plan)
-    return f"; {len(under)} of them under a breakpoint, where they stay when it is removed" if under else ""
 
 
 def send(bench: Bench, plan: patches.Plan) -> None:

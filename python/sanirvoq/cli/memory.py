@@ -119,8 +119,8 @@ def write(bench: Bench, words: Words) -> Result:
 
 def whole_write(bench: Bench, address: int, data: bytes) -> Result:
     bench.write(address, data)
-    return said(f"{counted(len(data), 'byte')} written at {address:#x}, read back and the same{stays(bench, address, data)}",
-                address=address, length=len(data), same=True)
+    told = f"{counted(len(data), 'byte')} written at {address:#x}, read back and the same"
+    return Result({"address": address, "length": len(data), "same": True}, [told, *stays(bench, address, data)])
 
 
 def resumed_write(bench: Bench, address: int, data: bytes) -> Result:
@@ -128,18 +128,23 @@ def resumed_write(bench: Bench, address: int, data: bytes) -> Result:
     with bench.output.progress("comparing and writing the rest", len(data)) as report:
         sent = transfer.resume(bench.head, address, data, report)
     bench.belief.seen(address, data)
-    return said(f"{sent} of {counted(len(data), 'byte')} were still to be written at {address:#x}; all are there now, read back "
-                f"and the same{stays(bench, address, data)}", address=address, length=len(data), sent=sent, same=True)
+    told = f"{sent} of {counted(len(data), 'byte')} were still to be written at {address:#x}; all are there now"
+    return Result({"address": address, "length": len(data), "sent": sent, "same": True},
+                  [told, *stays(bench, address, data)])
 
 
-def stays(bench: Bench, address: int, data: bytes) -> str:
+def stays(bench: Bench, address: int, data: bytes) -> list[str]:
     """What to say of bytes that were written under a trap."""
-    under = bench.belief.under_traps(address, len(data))
+    return stays_lines(bench.belief.under_traps(address, len(data)))
+
+
+def stays_lines(under: dict[int, int]) -> list[str]:
+    """The same of these addresses, each with its breakpoint."""
     if not under:
-        return ""
+        return []
     which = ", ".join(str(ident) for ident in sorted(set(under.values())))
-    return (f"; {counted(len(under), 'byte')} of it under breakpoint {which} (believed): the trap stays, and what was "
-            "written there is in memory when it goes")
+    return [f"{counted(len(under), 'byte')} of it under breakpoint {which} (believed): the trap stays, and what is "
+            "written there stays too"]
 
 
 def fill(bench: Bench, words: Words) -> Result:
