@@ -3,12 +3,13 @@
 #include "sanirvoq.h"
 
 #include <stdio.h>
+#include <string.h>
 
-enum { BASE = 0x1000, SIZE = 64, PID = 5, TCONDBREAK = 16, RERR = 1, RCONDBREAK = 17 };
+enum { BASE = 0x1000, SIZE = 64, PID = 5 };
 
 static int failed;
-static uint8_t memory[SIZE], registers[SANIRVOQ_BLOCK], reply[SANIRVOQ_MESSAGE];
-static const struct sanirvoq_lent lent = {memory, SIZE, registers, SANIRVOQ_BLOCK};
+static uint8_t memory[SIZE], registers[SANIRVOQ_BLOCK_SIZE], reply[SANIRVOQ_MESSAGE_SIZE];
+static const struct sanirvoq_lent lent = {memory, SIZE, registers, SANIRVOQ_BLOCK_SIZE};
 static struct sanirvoq_record record;
 
 static void expect(int holds, const char *what) {
@@ -20,17 +21,18 @@ static void expect(int holds, const char *what) {
 
 /* A Tcondbreak: whether it was accepted. */
 static int take(char letter, uint32_t val) {
-    uint8_t request[SANIRVOQ_MESSAGE] = {TCONDBREAK, (uint8_t)(val >> 24), (uint8_t)(val >> 16), (uint8_t)(val >> 8),
-                                         (uint8_t)val, (uint8_t)letter};
+    const struct sanirvoq_fields fields = {.kind = SANIRVOQ_MSG_TCONDBREAK, .value = val, .op = (uint8_t)letter};
+    uint8_t request[SANIRVOQ_MESSAGE_SIZE];
+    expect(sanirvoq_message_encode(fields, request, sizeof request) == SANIRVOQ_OK, "a message");
     const uint32_t result = sanirvoq_request(&record, lent, request, sizeof request, reply, sizeof reply);
-    expect(result == SANIRVOQ_ACCEPTED, "a request of right size over a fit record");
-    return reply[0] == RCONDBREAK;
+    expect(result == SANIRVOQ_OK, "a request of right size over a fit record");
+    return reply[0] == SANIRVOQ_MSG_RCONDBREAK;
 }
 
 /* A Tcondbreak that is refused with count. */
 static void refuse(char letter, const char *what) {
     expect(!take(letter, 0), what);
-    expect(reply[0] == RERR && memcmp(reply + 1, "count", 6) == 0, what);
+    expect(reply[0] == SANIRVOQ_MSG_RERR && memcmp(reply + 1, "count", 6) == 0, what);
 }
 
 /* A condition of so many elements, k and the number of each, then o; an even count. */
@@ -54,10 +56,10 @@ static int stands(size_t index, uint32_t count, uint32_t first) {
 }
 
 static void set_up(void) {
-    const uint32_t pid = PID, address = 0;
+    const struct sanirvoq_setup setup = {.base = BASE, .size = SIZE, .count = 1, .processes = {{PID, 0}}};
     /* Whatever the places hold is of no account. */
     memset(&record, 0xff, sizeof record);
-    expect(sanirvoq_setup(&record, lent, BASE, SIZE, &pid, &address, 1) == SANIRVOQ_ACCEPTED, "setup");
+    expect(sanirvoq_setup(&record, lent, &setup) == SANIRVOQ_OK, "setup");
 }
 
 static void fill(void) {
@@ -103,14 +105,14 @@ static void be_spoiled(void) {
     for (size_t i = 0; i < sizeof counts; i++) {
         record.target.table.entries[1].count = counts[i];
         before = record;
-        expect(sanirvoq_restart(&record, lent, reply, sizeof reply) == SANIRVOQ_UNFIT, "too many elements");
+        expect(sanirvoq_restart(&record, lent, reply, sizeof reply) == SANIRVOQ_ERR_UNFIT, "too many elements");
         expect(same_table(&before, &record), "the record after number 3");
     }
     record.target.table.entries[1].count = 2;
     record.places[2] |= 0x100;
-    expect(sanirvoq_restart(&record, lent, reply, sizeof reply) == SANIRVOQ_UNFIT, "a letter over 255");
+    expect(sanirvoq_restart(&record, lent, reply, sizeof reply) == SANIRVOQ_ERR_UNFIT, "a letter over 255");
     record.places[2] &= 0xff;
-    expect(sanirvoq_restart(&record, lent, reply, sizeof reply) == SANIRVOQ_ACCEPTED, "restart");
+    expect(sanirvoq_restart(&record, lent, reply, sizeof reply) == SANIRVOQ_OK, "restart");
     expect(sanirvoq_first_place(&record, SANIRVOQ_ENTRIES) == 0, "a restart gives all back");
 }
 

@@ -87,6 +87,42 @@ library() {
     { [ -n "${SANIRVOQ_LIB:-}" ] || { rt staticlib sanirvoq && rt staticlib bench_read; }; } && ls -l "$library"
 }
 
+# The header alone, as in a kernel with no C library: LANGUAGE STANDARD.
+header() {
+    gcc -x "$1" -std="$2" -ffreestanding -nostdinc -isystem "$(gcc -print-file-name=include)" -Wall -Wextra -Wpedantic \
+        -Werror -fsyntax-only include/sanirvoq.h
+}
+
+# Its inline functions call the archive's steps and nothing else.
+header_alone() {
+    gcc -x c -std=c11 -ffreestanding -O2 -fkeep-inline-functions -c include/sanirvoq.h -o "$logs/header.o" &&
+        nm -u "$logs/header.o" | tee "$logs/header_alone.txt" &&
+        grep -q ' U sanirvoq_step_' "$logs/header_alone.txt" &&
+        ! grep -v ' U sanirvoq_step_' "$logs/header_alone.txt"
+}
+
+# A result that is dropped is an error with -Werror.
+header_results() {
+    printf '%s\n' '#include "sanirvoq.h"' 'void drop(struct sanirvoq_record *record, struct sanirvoq_lent lent);' \
+        'void drop(struct sanirvoq_record *record, struct sanirvoq_lent lent) {' \
+        '    sanirvoq_state(record, lent, 5, SANIRVOQ_STATE_READY);' '}' > "$logs/drop.c" &&
+        ! c11 -Iinclude -c "$logs/drop.c" -o "$logs/drop.o" 2> "$logs/drop.txt" &&
+        grep 'warn_unused_result\|Wunused-result' "$logs/drop.txt" &&
+        sed -i 's/    sanirvoq_state/    (void)!sanirvoq_state/' "$logs/drop.c" &&
+        c11 -Iinclude -c "$logs/drop.c" -o "$logs/drop.o"
+}
+
+# Every function of the header is called by tests/header_calls.c.
+header_calls() {
+    local name missing=0
+    for name in $(grep -oE '\bsanirvoq_[a-z_]+\(' include/sanirvoq.h | sort -u); do
+        grep -qF "$name" tests/header_calls.c || { echo "not called: $name"; missing=1; }
+    done
+    [ "$missing" -eq 0 ] &&
+        c11 -O2 -Iinclude tests/header_calls.c "$library" -o "$logs/header_calls" &&
+        under_valgrind "$logs/header_calls"
+}
+
 example_c() {
     c11 -O2 -Iinclude examples/kernel.c "$library" -o "$logs/kernel_c" &&
         "$logs/kernel_c" > "$logs/kernel_c.txt" &&
@@ -122,8 +158,13 @@ example_rust() {
 rm -rf "$logs"
 mkdir -p "$logs" || exit 1
 check library library
-check header_c c11 -fsyntax-only -x c include/sanirvoq.h
-check header_cpp g++ -Wall -Werror -fsyntax-only -x c++ include/sanirvoq.h
+check header_c99 header c c99
+check header_c11 header c c11
+check header_cpp98 header c++ c++98
+check header_cpp17 header c++ c++17
+check header_alone header_alone
+check header_results header_results
+check header_calls header_calls
 check example_c example_c
 check example_c_valgrind under_valgrind "$logs/kernel_c"
 check example_rust example_rust

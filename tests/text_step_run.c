@@ -15,8 +15,10 @@
 
 #include <stdio.h>
 #include <stdlib.h>
+#include <string.h>
 
-enum { BASE = 0x1000, SIZE = 64, PROCESSES = 2, AREA = PROCESSES * SANIRVOQ_BLOCK, LONGEST = 1 << 16, FILL = 0xee };
+enum { BASE = 0x1000, SIZE = 64, PROCESSES = 2, AREA = PROCESSES * SANIRVOQ_BLOCK_SIZE };
+enum { LONGEST = 1 << 16, FILL = 0xee };
 
 static uint8_t memory[SIZE], registers[AREA];
 static const struct sanirvoq_lent lent = {memory, SIZE, registers, AREA};
@@ -44,20 +46,21 @@ static void give(const uint8_t *bytes, size_t length) { fwrite(bytes, 1, length,
 /* The number, and where that is 0 what follows. */
 static void give_answer(uint8_t number, const uint8_t *bytes, size_t length) {
     give(&number, 1);
-    give(bytes, number == SANIRVOQ_ACCEPTED ? length : 0);
+    give(bytes, number == SANIRVOQ_OK ? length : 0);
 }
 
 static void begin(void) {
-    const uint32_t pids[PROCESSES] = {5, 7}, addresses[PROCESSES] = {0x80001000, 0x80002000};
+    const struct sanirvoq_setup setup = {
+        .base = BASE, .size = SIZE, .count = PROCESSES, .processes = {{5, 0x80001000}, {7, 0x80002000}}};
     memset(registers, 0, AREA);
     for (int i = 0; i < SIZE; i++) {
         memory[i] = (uint8_t)i;
     }
-    stop_unless(sanirvoq_setup(&record, lent, BASE, SIZE, pids, addresses, PROCESSES) == 0, "setup");
+    stop_unless(sanirvoq_setup(&record, lent, &setup) == SANIRVOQ_OK, "setup");
 }
 
 static void request(void) {
-    uint8_t bytes[SANIRVOQ_MESSAGE], reply[SANIRVOQ_MESSAGE];
+    uint8_t bytes[SANIRVOQ_MESSAGE_SIZE], reply[SANIRVOQ_MESSAGE_SIZE];
     take(bytes, sizeof bytes);
     const uint32_t result = sanirvoq_request(&record, lent, bytes, sizeof bytes, reply, sizeof reply);
     stop_unless(sanirvoq_answer(result) == 0, "a process goes on at a breakpoint, which these steps have not");
@@ -65,7 +68,7 @@ static void request(void) {
 }
 
 static void schedule(void) {
-    uint8_t block[SANIRVOQ_BLOCK];
+    uint8_t block[SANIRVOQ_BLOCK_SIZE];
     const uint32_t pid = take_word();
     take(block, sizeof block);
     const uint32_t result = sanirvoq_schedule(&record, lent, pid, block, sizeof block);
@@ -74,7 +77,7 @@ static void schedule(void) {
 }
 
 static void restart(void) {
-    uint8_t reply[SANIRVOQ_MESSAGE];
+    uint8_t reply[SANIRVOQ_MESSAGE_SIZE];
     give_answer(sanirvoq_restart(&record, lent, reply, sizeof reply), reply, sizeof reply);
 }
 

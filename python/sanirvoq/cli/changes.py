@@ -69,8 +69,8 @@ def patch(bench: Bench, words: Words) -> Result:
     if not bench.confirm(f"send {counted(len(plan.writes), 'write')}?"):
         return said("nothing was sent", **data, sent=False)
     send(bench, plan)
-    told = (f"{counted(plan.differing, 'byte')} changed by {counted(len(plan.writes), 'write')}, read back and the same "
-            "as the image")
+    told = (f"{counted(plan.differing, 'byte')} changed by {counted(len(plan.writes), 'write')}, "
+            "read back and the same as the image")
     return said(told, **data, sent=True, same=True)
 
 

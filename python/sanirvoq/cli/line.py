@@ -97,8 +97,8 @@ def text(bench: Bench, words: Words) -> Result:
         if not bench.interactive:
             raise CommandError(f"a text request is missing: {words.usage}", len(words.line))
         bench.text_mode = True
-        return said("text requests now: i ADDR, d ADDR, I ADDR DATA, D .., r REG, R REG VALUE, or PID LETTER ADDR DATA; "
-                    "an empty line ends it")
+        return said("text requests now: i ADDR, d ADDR, I ADDR DATA, D .., r REG, R REG VALUE, or PID LETTER ADDR "
+                    "DATA; an empty line ends it")
     packet = text_packet(words)
     words.end()
     reply = bench.head.text(packet)

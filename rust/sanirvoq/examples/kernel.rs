@@ -1,8 +1,12 @@
-//! A small kernel in Rust with the debug stub in it: a debug session from the setup to the restart,
-//! step by step. `examples/kernel.c` is the same in C and prints the same text, which is kept in
-//! `examples/kernel.txt`.
+//! A small kernel in Rust with the debug stub in it: a debug session from the setup to the restart
+//! and behind it, step by step. `examples/kernel.c` is the same in C and prints the same text, which
+//! is kept in `examples/kernel.txt`.
 
-use sanirvoq::{Refusal, Served, Stub, Verdict, BLOCK, MESSAGE, TEXT};
+use sanirvoq::{differences, frame_reply, Answer, FrameReader, Frames, Message, Refusal, Run};
+use sanirvoq::{
+    Served, Stub, TextPacket, Verdict, BLOCK, FRAMED_REPLY, FRAME_BUFFER, MESSAGE, TEXT,
+};
+use std::error::Error;
 
 const BASE: u32 = 0x1000;
 const SIZE: u8 = 64;
@@ -12,32 +16,26 @@ const SITE: u32 = 0x1008;
 const PC: usize = BLOCK - 4;
 /// The bytes of a trap.
 const TRAP: u32 = 2;
-
-const TMGET: u8 = 2;
-const TMPUT: u8 = 4;
-const TPROC: u8 = 6;
-const TSTATUS: u8 = 8;
-const TSTOP: u8 = 12;
-const TSTART: u8 = 14;
-const TCONDBREAK: u8 = 16;
-const RERR: u8 = 1;
-const RPROC: u8 = 7;
-const RSTATUS: u8 = 9;
-
 /// A state byte.
 const RUNNING: u8 = 4;
+
+type Done = Result<(), Box<dyn Error>>;
 
 struct Kernel {
     stub: Stub,
     memory: Vec<u8>,
     registers: Vec<u8>,
+    reader: FrameReader,
+    body: [u8; FRAME_BUFFER],
 }
 
 /// The kernel's side.
 impl Kernel {
-    fn set_up() -> Result<Self, Refusal> {
+    fn set_up() -> Result<Self, Box<dyn Error>> {
         let mut memory: Vec<u8> = (0..SIZE).collect();
         let mut registers = vec![0; PROCESSES.len() * BLOCK];
+        let mut body = [0; FRAME_BUFFER];
+        let reader = Frames::new(&mut body)?.reader();
         let stub = Stub::setup(BASE, SIZE.into(), &PROCESSES, &mut memory, &mut registers)?;
         for (block, (pid, _)) in registers.chunks_exact_mut(BLOCK).zip(PROCESSES) {
             // A register has 0x100 times its number, plus the pid.
@@ -45,7 +43,7 @@ impl Kernel {
                 word.copy_from_slice(&(0x100 * number + pid).to_be_bytes());
             }
         }
-        Ok(Self { stub, memory, registers })
+        Ok(Self { stub, memory, registers, reader, body })
     }
 
     /// A process's block of the register area. This kernel keeps the registers there while the
@@ -62,14 +60,18 @@ impl Kernel {
         block
     }
 
-    /// The eight bytes of memory from the site on.
-    fn at_site(&self) -> &[u8] {
-        let at = (SITE - BASE) as usize;
+    /// Eight bytes of memory.
+    fn at(&self, address: u32) -> &[u8] {
+        let at = (address - BASE) as usize;
         &self.memory[at..at + 8]
     }
 
+    fn show_memory_at(&self, address: u32) {
+        line(&format!("memory at {address:#x}"), &hex(self.at(address)));
+    }
+
     fn show_memory(&self) {
-        line("memory at 0x1008", &hex(self.at_site()));
+        self.show_memory_at(SITE);
     }
 
     /// A process comes to a pc where memory holds a trap.
@@ -86,7 +88,7 @@ impl Kernel {
         line(&format!("trap of {pid} at {pc:#x}"), &text);
     }
 
-    fn about_to_run(&mut self, pid: u32) -> Result<(), Refusal> {
+    fn about_to_run(&mut self, pid: u32) -> Done {
         let block = self.come_to(pid, BASE);
         let stops = self.stub.schedule(&mut self.memory, &mut self.registers, pid, &block)?;
         line(&format!("schedule of {pid}"), if stops { "yes: it stops" } else { "no: it runs" });
@@ -102,6 +104,61 @@ impl Kernel {
         pc.copy_from_slice(&behind.to_be_bytes());
         let text = format!("the kernel runs {} elsewhere, then on from {behind:#x}", hex(&plain));
         line(&format!("process {pid} goes on"), &text);
+    }
+
+    /// Hands a request to the stub and shows it and its reply, which is given.
+    fn serve(
+        &mut self,
+        label: &str,
+        request: [u8; MESSAGE],
+    ) -> Result<[u8; MESSAGE], Box<dyn Error>> {
+        let mut reply = [0; MESSAGE];
+        let served =
+            match self.stub.request(&mut self.memory, &mut self.registers, &request, &mut reply) {
+                Ok(served) => served,
+                Err(refusal) => {
+                    let refused = format!("refused with number {}", refusal.number());
+                    line(label, &format!("{} -> {refused}", hex(&request)));
+                    return Err(refusal.into());
+                }
+            };
+        let words = match Message::try_from(reply)? {
+            Message::Rerr(_) | Message::Rproc(_) | Message::Rstatus(_) => {
+                format!("  {}", text(&reply[1..]))
+            }
+            _ => String::new(),
+        };
+        line(label, &format!("{} -> {}{words}", hex(&request), hex(&reply)));
+        match served {
+            Served::Reply => {}
+            Served::ReplyAndPass(plain) => self.go_on(word(&request[1..5]), plain),
+            other => panic!("this kernel does not know {other:?}"),
+        }
+        Ok(reply)
+    }
+
+    /// Bytes came over the line.
+    fn receive(&mut self, mut piece: &[u8]) -> Done {
+        while !piece.is_empty() {
+            let mut frames = Frames::from(self.reader, &mut self.body)?;
+            let (rest, answer) = frames.feed(piece);
+            (piece, self.reader) = (rest, frames.reader());
+            match answer {
+                Some(Answer::Packet { size, request: Some(sequence), .. }) => {
+                    let request = frames.body(size).try_into()?;
+                    let reply = self.serve("request in a packet", request)?;
+                    let mut framed = [0; FRAMED_REPLY];
+                    frame_reply(sequence.into(), &reply, &mut framed)?;
+                    line("framed reply", &hex(&framed));
+                }
+                Some(Answer::BadBody { sequence, .. }) => {
+                    let text = format!("sequence {sequence}: no reply, the host sends it again");
+                    line("bad packet", &text);
+                }
+                _ => {}
+            }
+        }
+        Ok(())
     }
 }
 
@@ -125,120 +182,124 @@ fn line(label: &str, text: &str) {
 
 /// The engineer's side.
 impl Kernel {
-    /// Sends a request (a type, a number of four bytes, and what follows, zero padded), and shows
-    /// it and its reply.
-    fn ask(&mut self, label: &str, kind: u8, number: u32, rest: &[u8]) -> Result<(), Refusal> {
-        let (mut request, mut reply) = ([0; MESSAGE], [0; MESSAGE]);
-        request[0] = kind;
-        request[1..5].copy_from_slice(&number.to_be_bytes());
-        request[5..5 + rest.len()].copy_from_slice(rest);
-        let served =
-            self.stub.request(&mut self.memory, &mut self.registers, &request, &mut reply)?;
-        let words = match reply[0] {
-            RERR | RPROC | RSTATUS => format!("  {}", text(&reply[1..])),
-            _ => String::new(),
-        };
-        line(label, &format!("{} -> {}{words}", hex(&request), hex(&reply)));
-        match served {
-            Served::Reply => {}
-            Served::ReplyAndPass(plain) => self.go_on(number, plain),
-            other => panic!("this kernel does not know {other:?}"),
-        }
-        Ok(())
+    /// Sends a request, and shows it and its reply.
+    fn ask(&mut self, message: Message) -> Done {
+        self.serve(&message.to_string(), message.encode()?).map(drop)
+    }
+
+    fn get(&mut self, addr: u32, n: u8) -> Done {
+        self.ask(Message::Tmget { addr, n })
+    }
+
+    fn put(&mut self, addr: u32, data: [u8; 4]) -> Done {
+        self.ask(Message::Tmput { addr, n: 4, data })
+    }
+
+    fn condition(&mut self, letters: &[(u8, u32)]) -> Done {
+        letters.iter().try_for_each(|&(op, val)| self.ask(Message::Tcondbreak { val, op }))
     }
 
     /// Sends a request of the text dialect, and shows it and its reply.
-    fn ask_text(&mut self, request: &str) -> Result<(), Refusal> {
-        let (memory, registers) = (&mut self.memory, &mut self.registers);
-        let mut reply = [0; TEXT];
-        let served = self.stub.text(memory, registers, request.as_bytes(), &mut reply)?;
+    fn ask_text(&mut self, letter: u8, third: u32, fourth: u32) -> Done {
+        let (mut request, mut reply) = ([0; TEXT], [0; TEXT]);
+        let request = TextPacket { pid: 0, letter, third, fourth }.encode(&mut request)?;
+        let served = self.stub.text(&mut self.memory, &mut self.registers, request, &mut reply)?;
         let error = match served.reply() {
             Ok(_) => String::new(),
             Err(errno) => format!("  errno {}", errno.number()),
         };
-        let reply = String::from_utf8_lossy(served.text());
-        line("text", &format!("{request} -> {reply}{error}"));
+        line("text", &format!("{} -> {}{error}", text(request), text(served.text())));
         Ok(())
     }
 
-    fn set_breakpoints(&mut self) -> Result<(), Refusal> {
+    fn set_breakpoints(&mut self) -> Done {
         println!("She sets breakpoint 4 at 0x1008 for process 7 only, and 9 at 0x100c for all.");
-        self.ask("Tcondbreak n 4", TCONDBREAK, 4, b"n")?;
-        self.ask("Tcondbreak k 7", TCONDBREAK, 7, b"k")?;
-        self.ask("Tcondbreak a", TCONDBREAK, 0, b"a")?;
-        self.ask("Tcondbreak b 0x1008", TCONDBREAK, SITE, b"b")?;
-        self.ask("Tcondbreak n 9", TCONDBREAK, 9, b"n")?;
-        self.ask("Tcondbreak b 0x100c", TCONDBREAK, 0x100c, b"b")?;
+        self.condition(&[(b'n', 4), (b'k', 7), (b'a', 0), (b'b', SITE)])?;
+        self.condition(&[(b'n', 9), (b'b', 0x100c)])?;
         self.show_memory();
         Ok(())
     }
 
-    fn patch(&mut self) -> Result<(), Refusal> {
+    fn patch(&mut self) -> Done {
         println!("She writes across both traps. The traps stand, and she reads what she wrote.");
-        let four = [4, 0xaa, 0xbb, 0xcc, 0xdd];
-        self.ask("Tmput 0x1009 n 4 aa bb cc dd", TMPUT, 0x1009, &four)?;
+        self.put(0x1009, [0xaa, 0xbb, 0xcc, 0xdd])?;
         self.show_memory();
-        self.ask("Tmget 0x1008 n 8", TMGET, SITE, &[8])
+        self.get(SITE, 8)
     }
 
-    fn stop_one(&mut self) -> Result<(), Refusal> {
+    fn stop_one(&mut self) -> Done {
         println!("Both processes come to 0x1008: 5 runs on over the new bytes, 7 stops.");
         self.run_into_trap(5, SITE);
         self.run_into_trap(7, SITE);
         println!("She changes register 10 of process 7 and starts it. Breakpoint 4 stands.");
-        self.ask("Tproc 7", TPROC, 7, &[])?;
-        self.ask("Tmget 0x28 n 4", TMGET, 0x28, &[4])?;
-        self.ask("Tmput 0x28 n 4 00 00 00 63", TMPUT, 0x28, &[4, 0, 0, 0, 0x63])?;
-        self.ask("Tstart 7", TSTART, 7, &[])?;
+        self.ask(Message::Tproc(7))?;
+        self.get(0x28, 4)?;
+        self.put(0x28, [0, 0, 0, 0x63])?;
+        self.ask(Message::Tstart(7))?;
         self.show_memory();
         println!(
             "Process 7 comes to 0x1008 again and stops again, with the register that she changed."
         );
         self.run_into_trap(7, SITE);
-        self.ask("Tmget 0x28 n 4", TMGET, 0x28, &[4])?;
+        self.get(0x28, 4)?;
         println!("She removes breakpoint 4 and starts process 7, which now just goes on.");
-        self.ask("Tcondbreak d 4", TCONDBREAK, 4, b"d")?;
-        self.ask("Tstart 7", TSTART, 7, &[])?;
+        self.condition(&[(b'd', 4)])?;
+        self.ask(Message::Tstart(7))?;
         self.show_memory();
         Ok(())
     }
 
-    fn stop_other(&mut self) -> Result<(), Refusal> {
+    fn stop_other(&mut self) -> Done {
         println!("She wants process 5 stopped. It stops when the kernel is about to run it.");
-        self.ask("Tstop 5", TSTOP, 5, &[])?;
+        self.ask(Message::Tstop(5))?;
         self.about_to_run(7)?;
         self.about_to_run(5)?;
-        self.ask("Tstatus 5", TSTATUS, 5, &[])?;
-        println!("The kernel gives process 7 the state 4.");
+        self.ask(Message::Tstatus(5))?;
+        println!("The kernel gives process 7 the state Running.");
         self.stub.state(&mut self.memory, &mut self.registers, 7, RUNNING)?;
-        self.ask("Tstatus 7", TSTATUS, 7, &[])
+        self.ask(Message::Tstatus(7))
     }
 
-    fn speak_text(&mut self) -> Result<(), Refusal> {
+    fn speak_text(&mut self) -> Done {
         println!("Her bench debugger speaks text. Four bytes are one word, the lowest first.");
-        self.ask_text("0x0 i 0x1004 0x0")?;
+        self.ask_text(b'i', 0x1004, 0)?;
         println!(
             "It writes the word at 0x100c, under breakpoint 9. The answer is the word before."
         );
-        self.ask_text("0x0 D 0x100c 0xf0e0dee")?;
-        self.ask_text("0x0 d 0x100c 0x0")?;
+        self.ask_text(b'D', 0x100c, 0x0f0e_0dee)?;
+        self.ask_text(b'd', 0x100c, 0)?;
         self.show_memory();
         println!("It asks for the pc: process 7 is current and runs, process 5 is stopped.");
-        self.ask_text("0x0 r 0x21 0x0")?;
-        self.ask("Tproc 5", TPROC, 5, &[])?;
-        self.ask_text("0x0 r 0x21 0x0")?;
-        self.ask_text("0x0 R 0xa 0x63")?;
-        self.ask_text("0x0 r 0xa 0x0")
+        self.ask_text(b'r', 33, 0)?;
+        self.ask(Message::Tproc(5))?;
+        self.ask_text(b'r', 33, 0)?;
+        self.ask_text(b'R', 10, 0x63)?;
+        self.ask_text(b'r', 10, 0)
     }
 
-    fn be_refused(&mut self) -> Result<(), Refusal> {
+    fn be_refused(&mut self) -> Done {
         println!("A write that leaves the window is refused; so is a trap of a stopped process.");
-        self.ask("Tmput 0x103e n 4 01 02 03 04", TMPUT, 0x103e, &[4, 1, 2, 3, 4])?;
+        self.put(0x103e, [1, 2, 3, 4])?;
         self.run_into_trap(5, SITE);
         Ok(())
     }
 
-    fn restart(&mut self) -> Result<(), Refusal> {
+    fn speak_in_frames(&mut self) -> Done {
+        println!(
+            "The line is noisy. A packet comes with a wrong bit, then whole and in two pieces."
+        );
+        // Requests are framed as replies are.
+        let mut packet = [0; FRAMED_REPLY];
+        frame_reply(7, &Message::Tmget { addr: SITE, n: 8 }.encode()?, &mut packet)?;
+        packet[15] ^= 4;
+        self.receive(&packet)?;
+        packet[15] ^= 4;
+        let (first, second) = packet.split_at(11);
+        self.receive(first)?;
+        self.receive(second)
+    }
+
+    fn restart(&mut self) -> Done {
         let mut reply = [0; MESSAGE];
         println!("The kernel begins the session anew. The last trap goes, what she wrote stays.");
         self.show_memory();
@@ -247,21 +308,52 @@ impl Kernel {
         self.show_memory();
         Ok(())
     }
+
+    fn compare(&self) -> Done {
+        let image: Vec<u8> = (0..SIZE).collect();
+        let mut list = [Run::default(); SIZE as usize / 2];
+        println!("She compares the window with the image that was loaded.");
+        for run in differences(&image, &self.memory, &mut list)? {
+            line(&format!("differs at {:#x}", BASE + run.start), &format!("{} bytes", run.length));
+        }
+        Ok(())
+    }
+
+    /// A trap is overwritten from outside: number 3, and the record is given up.
+    fn lose_a_trap(&mut self) -> Done {
+        println!(
+            "Breakpoints 1 and 2 stand at 0x1010 and 0x1014. A loader overwrites the first trap."
+        );
+        self.condition(&[(b'n', 1), (b'b', 0x1010), (b'n', 2), (b'b', 0x1014)])?;
+        self.memory[0x10..0x12].copy_from_slice(&[0xf0, 0xf1]);
+        self.show_memory_at(0x1010);
+        let refused = self.get(0x1010, 8).unwrap_err();
+        assert_eq!(refused.downcast_ref(), Some(&Refusal::Unfit));
+        println!("The kernel puts back what lies under the other trap, and sets up anew.");
+        let left_out = self.stub.put_back(&mut self.memory, BASE);
+        line("put back", &format!("{left_out} breakpoint left out"));
+        let (memory, registers) = (&mut self.memory, &mut self.registers);
+        self.stub.setup_in_place(BASE, SIZE.into(), &PROCESSES, memory, registers)?;
+        self.get(0x1010, 8)
+    }
 }
 
-fn main() -> Result<(), Refusal> {
+fn main() -> Done {
     let mut kernel = Kernel::set_up()?;
     println!("The kernel has processes 5 and 7 and lends 64 bytes at 0x1000; byte i is i.");
     kernel.show_memory();
     println!("The engineer reads four bytes.");
-    kernel.ask("Tmget 0x1004 n 4", TMGET, 0x1004, &[4])?;
+    kernel.get(0x1004, 4)?;
     kernel.set_breakpoints()?;
     kernel.patch()?;
     kernel.stop_one()?;
     kernel.stop_other()?;
     kernel.speak_text()?;
     kernel.be_refused()?;
+    kernel.speak_in_frames()?;
     kernel.restart()?;
-    assert_eq!(kernel.at_site(), [0x08, 0xaa, 0xbb, 0xcc, 0xee, 0x0d, 0x0e, 0x0f]);
+    kernel.compare()?;
+    kernel.lose_a_trap()?;
+    assert_eq!(kernel.at(SITE), [0x08, 0xaa, 0xbb, 0xcc, 0xee, 0x0d, 0x0e, 0x0f]);
     Ok(())
 }

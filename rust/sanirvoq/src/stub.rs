@@ -4,6 +4,9 @@ use crate::{Refusal, TextPacket, TextReply, TextRequest, TextServed, TEXT};
 use sanirvoq_sys::call::{self, Kind, Lent};
 use sanirvoq_sys::ffi::{Process, Record, Target};
 
+/// The bytes of a trap in memory.
+const TRAP: [u8; 2] = [0x02, 0x90];
+
 /// What the kernel is to do with a process that ran into a trap.
 #[derive(Debug, Clone, Copy, PartialEq, Eq)]
 #[non_exhaustive]
@@ -202,6 +205,31 @@ impl Stub {
         self.text(memory, registers, request, &mut reply).map(|served| served.reply())
     }
 
+    /// Puts the program's own bytes back where the window at `base` has the trap of a used entry, for a
+    /// kernel that gives up a record after [`Refusal::Unfit`] and sets up anew: a setup begins with no
+    /// breakpoint and takes the window as it is, and what lies under the traps would be lost with the
+    /// record.
+    ///
+    /// It trusts nothing in the record: an entry whose site is not in the window, or where memory does
+    /// not hold the trap, is left out. Gives how many used entries were left out; the kernel has to
+    /// know by itself what belongs there.
+    #[must_use = "entries that were left out need the kernel's own knowledge"]
+    pub fn put_back(&self, memory: &mut [u8], base: u32) -> usize {
+        let entries = self.record.target.table.entries;
+        let used = entries.iter().filter(|entry| entry.used == 1);
+        used.filter(|entry| {
+            let at = entry.site.checked_sub(base).map(|at| at as usize);
+            match at.and_then(|at| memory.get_mut(at..)?.first_chunk_mut()) {
+                Some(bytes) if *bytes == TRAP => {
+                    bytes.copy_from_slice(&entry.plain[..TRAP.len()]);
+                    false
+                }
+                _ => true,
+            }
+        })
+        .count()
+    }
+
     /// A stub of any record: one that is not fit is refused by every step.
     #[must_use]
     pub fn from_raw(record: Record) -> Self {
@@ -248,11 +276,27 @@ fn verdict(answer: [u8; 3]) -> Verdict {
 #[cfg(test)]
 mod tests {
     use super::*;
+    use sanirvoq_sys::ffi::Entry;
 
     #[test]
     fn a_result_has_the_number_lowest() {
         assert_eq!(answer(0x0908_0200), Ok([2, 8, 9]));
         assert_eq!(answer(6), Err(Refusal::NoSite));
+    }
+
+    #[test]
+    fn traps_that_stand_are_put_back_and_others_counted() {
+        let mut record = Record::default();
+        let entry = |site| Entry { used: 1, plain: [8, 9, 0, 0], site, ..Entry::default() };
+        let entries = &mut record.target.table.entries;
+        // In the window's first and last two bytes; overwritten; free.
+        (entries[0], entries[1], entries[2]) = (entry(0x1000), entry(0x1006), entry(0x1004));
+        entries[3] = Entry { used: 0, ..entry(0x1002) };
+        // Below the window, across its end, behind it.
+        (entries[4], entries[5], entries[6]) = (entry(0xffe), entry(0x1007), entry(u32::MAX));
+        let mut memory = [0x02, 0x90, 0x02, 0x90, 0x02, 0x91, 0x02, 0x90];
+        assert_eq!(Stub::from_raw(record).put_back(&mut memory, 0x1000), 4);
+        assert_eq!(memory, [8, 9, 0x02, 0x90, 0x02, 0x91, 8, 9]);
     }
 
     #[test]
