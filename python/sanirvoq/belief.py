@@ -12,6 +12,17 @@ from .condition import PLACES
 from .errors import CommandError
 
 TRAP_LENGTH = 2
+SEEN = ("first", "last")
+
+
+def stretches(seen: dict[int, int]) -> list[tuple[int, str]]:
+    """Bytes by their addresses as stretches: where each begins, and its bytes in hex."""
+    found: list[tuple[int, bytearray]] = []
+    for at in sorted(seen):
+        if not found or at != found[-1][0] + len(found[-1][1]):
+            found.append((at, bytearray()))
+        found[-1][1].append(seen[at])
+    return [(start, data.hex()) for start, data in found]
 
 
 @dataclass
@@ -80,7 +91,10 @@ class Belief:
     # between two commands
 
     def save(self, path: Path) -> None:
-        path.write_text(json.dumps(dataclasses.asdict(self), indent=1) + "\n", encoding="utf-8")
+        data = dataclasses.asdict(self)
+        for name in SEEN:
+            data[name] = stretches(data[name])
+        path.write_text(json.dumps(data, indent=1) + "\n", encoding="utf-8")
 
     @classmethod
     def load(cls, path: Path) -> Belief:
@@ -90,8 +104,9 @@ class Belief:
             data = json.loads(path.read_text(encoding="utf-8"))
             data["breakpoints"] = {int(ident): Believed(**one) for ident, one in data["breakpoints"].items()}
             data["protected"] = tuple(data["protected"]) if data["protected"] else None
-            for name in ("first", "last"):
-                data[name] = {int(at): byte for at, byte in data[name].items()}
+            for name in SEEN:
+                data[name] = {at: byte for start, text in data[name]
+                              for at, byte in enumerate(bytes.fromhex(text), start)}
             return cls(**data)
         except (ValueError, KeyError, TypeError, AttributeError) as error:
             raise CommandError(f"{path} is no session of this tool: {error}") from error

@@ -2,6 +2,7 @@
 
 from __future__ import annotations
 
+import ctypes
 from dataclasses import dataclass
 from enum import IntEnum
 
@@ -47,10 +48,9 @@ class FrameReader:
     def feed(self, piece: bytes) -> list[Packet]:
         """Every answer that this piece brings."""
         answers: list[Packet] = []
-        at = 0
+        lent, at = buffer(piece), 0
         while True:
-            rest = piece[at:]
-            fed = self._feed(self._state, buffer(rest), len(rest), self._body, BODY_BUFFER)
+            fed = self._feed(self._state, ctypes.addressof(lent) + at, len(piece) - at, self._body, BODY_BUFFER)
             if fed.number != 0:
                 raise CallError("sanirvoq_frame_feed", fed.number, "the body buffer is too short")
             self._state = fed.reader

@@ -3,7 +3,8 @@
     python3 tests/transcripts.py     puts what is shown today into README.md
 
 A fenced block `practice` is typed at `sanirvoq practice`, a block `qemu` at `sanirvoq practice qemu`. A line that
-begins with `$ ` is a command of the shell, in the same folder. Times are not compared, nor when the head says its lines.
+begins with `$ ` is a command of the shell, in the same folder. Times are not compared, nor when the head says its
+lines.
 """
 
 from __future__ import annotations
