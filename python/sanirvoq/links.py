@@ -92,7 +92,7 @@ class SerialLink:
     def __init__(self, path: str, baud: int) -> None:
         import serial
         try:
-            self._port = serial.Serial(path, baud, timeout=0)
+            self._port = serial.Serial(path, baud, timeout=0, exclusive=True)
         except (OSError, ValueError) as error:
             raise LineError(f"cannot open {path}: {error}") from error
 
@@ -144,7 +144,7 @@ def open_link(address: str, seconds: float = 5.0) -> Link:
         host, _, port = rest.rpartition(":")
         if not host or not port.isdigit():
             raise CommandError(f"a TCP address is tcp:HOST:PORT, not {address}")
-        return TcpLink(host, int(port), seconds)
+        return TcpLink(host.strip("[]"), int(port), seconds)
     if kind == "serial" and rest:
         path, _, baud = rest.partition("@")
         if baud and not baud.isdigit():

@@ -19,6 +19,7 @@ from sanirvoq import Head, Line, Settings, connect  # noqa: E402
 from sanirvoq.practice import Kernel, practice_setup, service  # noqa: E402
 from sanirvoq.exchange import BlockExchange, FrameExchange  # noqa: E402
 from sanirvoq.log import Log  # noqa: E402
+from sanirvoq.noise import Noise  # noqa: E402
 from sanirvoq.serving import PracticeLink  # noqa: E402
 
 PLAIN = bytes(i & 0xFF for i in range(1024))
@@ -68,11 +69,11 @@ class Pair:
         return [line.split("  ", 1)[1] for line in self.log.lines if " > " in line]
 
 
-def practised(blocks: bool = False, settings: Settings | None = None) -> Pair:
+def practised(blocks: bool = False, settings: Settings | None = None, noise: Noise | None = None) -> Pair:
     kernel = Kernel(practice_setup())
     log = Log()
     kind = BlockExchange if blocks else FrameExchange
-    link = PracticeLink(service(kernel, blocks))
+    link = PracticeLink(service(kernel, blocks), noise)
     return Pair(Head(kind(link, log, settings or Settings(0.5, 5))), kernel, log)
 
 

@@ -140,22 +140,31 @@ def test_noise_on_a_line_of_frames(seed: int) -> None:
     assert head.exchange.counts.again > 0
 
 
-def test_a_breakpoint_over_a_noisy_line() -> None:
+def test_breakpoints_over_a_noisy_line() -> None:
+    """Whatever is lost: a breakpoint that is said to stand stands once, with its condition as it was meant."""
     found = parse("break 3 at 0x1100 if pid == 7 and word[0x1008] == 0x0b0a0908")
-    stood = 0
+    meant = [number for one in found.elements for number in (ord(one.op), one.value)]
+    stood = again = 0
     for seed in range(12):
-        noise = Noise(lose=0.002, garble=0.002, seed=seed)
-        head = connect("practice", Line(settings=QUICK, noise=noise))
+        pair = practised(settings=QUICK, noise=Noise(lose=0.002, garble=0.002, double=0.001, seed=seed))
         try:
-            head.set_breakpoint(found.ident, found.site, found.elements)
+            pair.head.set_breakpoint(found.ident, found.site, found.elements)
         except LineError as error:
             assert "not known" in str(error)
             continue
+        [entry] = pair.kernel.stub.entries()
+        assert (entry.id, entry.site, entry.count) == (3, 0x1100, len(found.elements))
+        assert list(pair.kernel.stub.places[:len(meant)]) == meant
         stood += 1
-        with pytest.raises(Refused) as caught:
-            head.set_breakpoint(found.ident, found.site, found.elements)
-        assert caught.value.reason == "inval"
-    assert stood >= 10
+        again += pair.sent().count("Tcondbreak: begin breakpoint 3") > 1
+    assert stood >= 10 and again >= 3
+
+
+def test_answers_that_are_later_than_the_patience() -> None:
+    """An answer to an earlier try of the same request counts, so a slow line is slow and no more."""
+    pair = practised(settings=Settings(0.03, 6), noise=Noise(delay=0.05, seed=5))
+    assert pair.head.read(0x1000, 90) == PLAIN[:90]
+    assert pair.head.exchange.counts.again > 0
 
 
 @pytest.mark.parametrize("place", range(10))

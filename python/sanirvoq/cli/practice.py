@@ -21,15 +21,16 @@ WELCOME = {
     "program": "the program of document 01: 64 bytes at 0x1000; its processes do what `event` says",
     "qemu": "examples/head under qemu: a RISC-V head with two processes that measure logs",
 }
-FIRST_STEPS = """try:  dump 0x1000 32
-      break 3 at 0x1008 if pid == 7
-      wait 7
-      registers 7
-      write 0x1009 aa bb cc
-      continue 7
-      delete 3
-      map
-`help` lists all commands, the tab key completes, `quit` ends."""
+_PLAYED = ("dump 0x1000 32", "break 3 at 0x1008 if pid == 7", "wait 7", "registers 7", "write 0x1009 aa bb cc",
+           "continue 7", "delete 3", "map")
+FIRST_STEPS = {
+    "small": _PLAYED,
+    "worked": _PLAYED,
+    "program": ("dump", "break 4 at 0x1008 if pid == 7", "event trap 5 at 0x1008", "event trap 7 at 0x1008", "ps",
+                "continue 7"),
+    "qemu": ("says", "break 3 at 0x8010006a if pid == 7", "wait 7", "registers 7",
+             "write 0x8010006a 13 87 87 02", "says", "delete 3", "continue 7"),
+}
 
 
 def practice_parser() -> argparse.ArgumentParser:
@@ -38,22 +39,28 @@ def practice_parser() -> argparse.ArgumentParser:
                       help="; ".join(f"{name}: {text}" for name, text in WELCOME.items()))
     made.add_argument("--noise", type=float, default=0.0, metavar="SHARE",
                       help="the share of bytes that the line loses, and of those that it garbles, as 0.002")
+    made.add_argument("--delay", type=float, default=0.0, metavar="SECONDS", help="how late a piece may be")
     made.add_argument("--seed", type=int, default=1, help="of the noise")
     made.add_argument("--serve", metavar="pty|PORT",
                       help="no prompt: the head waits at a pseudo-terminal or a TCP port of this machine for others")
     return made
 
 
+def greet(which: str, output: Output) -> None:
+    output.notice(WELCOME[which])
+    for at, step in enumerate(FIRST_STEPS[which]):
+        output.console.print(f"{'      ' if at else 'try:  '}{step}", markup=False)
+    output.console.print("`help` lists all commands, the tab key completes, `quit` ends.", markup=False)
+
+
 def run_practice(words: list[str], options: Options, output: Output, practise: PRACTISE) -> int:
     given = practice_parser().parse_args(words)
-    noise = Noise(given.noise, given.noise, given.noise / 4, seed=given.seed) if given.noise else None
-    options = dataclasses.replace(options, noise=noise)
+    noise = Noise(given.noise, given.noise, given.noise / 4, given.delay, given.seed)
+    options = dataclasses.replace(options, noise=noise if given.noise or given.delay else None)
     if given.serve:
         return serve(given.which, given.serve, options, output)
     if not output.as_json:
-        output.notice(WELCOME[given.which])
-        if given.which in ("small", "worked"):
-            output.console.print(FIRST_STEPS, markup=False)
+        greet(given.which, output)
     if given.which == "qemu":
         with qemu.running() as address:
             return practise(dataclasses.replace(options, head=address), output, "qemu")
