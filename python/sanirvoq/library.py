@@ -35,7 +35,7 @@ CALLS: dict[str, tuple[list[type], type]] = {
                              s.Verdict),
     "sanirvoq_patch_plan": ([*_RECORD, *_MEMORY, BYTES, SIZE, BYTES, SIZE, ctypes.POINTER(s.PlannedWrite), SIZE],
                             s.Planning),
-    "sanirvoq_step_setup": ([_RECORD[0], *_STEP[2:]], ctypes.c_uint32),
+    "sanirvoq_step_setup": ([_RECORD[0], *_MEMORY, ctypes.c_uint64, ctypes.c_uint64], ctypes.c_uint32),
     "sanirvoq_step_request": (_STEP, ctypes.c_uint32),
     "sanirvoq_step_trap": (_STEP, ctypes.c_uint32),
     "sanirvoq_step_schedule": (_STEP, ctypes.c_uint32),

@@ -21,12 +21,13 @@ HALFWORD = 2
 WINDOW = 1024
 BASE = 0x1000
 ROUTINE = (0x1000, 0x1040)
+PROTECTED = (0x13F0, 0x1400)
 PROCESSES = ((5, 0x80001000), (7, 0x80002000))
 
 
 def practice_setup() -> Setup:
-    """1,024 bytes at 0x1000, each byte its address's low half; processes 5 and 7."""
-    return Setup(BASE, bytes(i & 0xFF for i in range(WINDOW)), PROCESSES)
+    """1,024 bytes at 0x1000, each its address's lowest byte; processes 5 and 7; the last 16 bytes protected."""
+    return Setup(BASE, bytes(i & 0xFF for i in range(WINDOW)), PROCESSES, PROTECTED)
 
 
 def worked_setup() -> Setup:

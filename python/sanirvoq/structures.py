@@ -33,8 +33,9 @@ class Process(ctypes.Structure):
 class Target(ctypes.Structure):
     """What the record has besides its places."""
 
-    _fields_ = [("base", c_uint32), ("size", c_uint32), ("count", c_uint32), ("processes", Process * PROCESSES),
-                ("selected", c_uint8), ("current", c_uint32), ("table", Table)]
+    _fields_ = [("base", c_uint32), ("size", c_uint32), ("protected_offset", c_uint32), ("protected_length", c_uint32),
+                ("count", c_uint32), ("processes", Process * PROCESSES), ("selected", c_uint8), ("current", c_uint32),
+                ("table", Table)]
 
 
 class Fields(ctypes.Structure):
@@ -96,7 +97,7 @@ class Planning(ctypes.Structure):
     _fields_ = [("number", c_uint8), ("address", c_uint32), ("writes", c_uint32)]
 
 
-SIZES = {Entry: 12, Draft: 3, Table: 100, Process: 12, Target: 168, Fields: 20, Found: 24, Comparison: 8,
+SIZES = {Entry: 12, Draft: 3, Table: 100, Process: 12, Target: 176, Fields: 20, Found: 24, Comparison: 8,
          TextFields: 16, TextWritten: 8, TextFound: 20, FrameReaderState: 24, FrameFed: 48,
          PlannedWrite: 12, Verdict: 8, Planning: 12}
 

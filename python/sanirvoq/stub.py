@@ -53,8 +53,8 @@ class Stub:
         self._setup(setup)
 
     def _setup(self, setup: Setup) -> None:
-        none = buffer(0)
-        result = call("sanirvoq_step_setup")(ctypes.byref(self.target), *self._lent, 0, 0, none, 0, none, 0)
+        low, high = setup.protected or (setup.base, setup.base)
+        result = call("sanirvoq_step_setup")(ctypes.byref(self.target), *self._lent, low, high)
         if result & 0xFF:
             raise CallError("sanirvoq_step_setup", result & 0xFF, NUMBERS.get(result & 0xFF, "refused"))
 

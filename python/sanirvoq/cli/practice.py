@@ -16,7 +16,8 @@ from .output import Output
 HEADS = ("small", "worked", "program", "qemu")
 PRACTISE = Callable[[Options, Output, str], int]
 WELCOME = {
-    "small": "a head on this machine: the proved stub over 1,024 bytes at 0x1000, processes 5 and 7",
+    "small": "a head on this machine: the proved stub over 1,024 bytes at 0x1000 (the last 16 protected), processes 5 "
+             "and 7",
     "worked": "the worked setup: the proved stub over 64 bytes at 0x1000, processes 5 and 7",
     "program": "the program of document 01: 64 bytes at 0x1000; its processes do what `event` says",
     "qemu": "examples/head under qemu: a RISC-V head with two processes that measure logs",
