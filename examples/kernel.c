@@ -7,11 +7,16 @@
 #include <string.h>
 
 enum { BASE = 0x1000, SIZE = 64, SITE = 0x1008, SHOWN = 8 };
+enum { LIMIT = 0x1038 };                         /* where the word of the laser's power limit is */
 enum { PC = SANIRVOQ_BLOCK_SIZE - 4, TRAP = 2 }; /* where pc is in a block, and the bytes of a trap */
 enum { LABEL = 32 };                             /* bytes of a line's label */
 
-static const struct sanirvoq_setup setup = {
-    .base = BASE, .size = SIZE, .count = 2, .processes = {{5, 0x80001000}, {7, 0x80002000}}};
+static const struct sanirvoq_setup setup = {.base = BASE,
+                                            .size = SIZE,
+                                            .protected_from = LIMIT,
+                                            .protected_to = LIMIT + 4,
+                                            .count = 2,
+                                            .processes = {{5, 0x80001000}, {7, 0x80002000}}};
 
 struct kernel {
     struct sanirvoq_record record;
@@ -324,6 +329,16 @@ static void be_refused(struct kernel *kernel) {
     run_into_trap(kernel, 5, SITE);
 }
 
+static void keep_off_the_limit(struct kernel *kernel) {
+    printf("The laser's power limit at 0x1038 is protected. She reads it, and cannot change it.\n");
+    read_bytes(kernel, "Tmget 0x1038 n 4", LIMIT, 4);
+    write_four(kernel, "Tmput 0x1035 n 4 ff ff ff ff", 0x1035, 0xffffffff);
+    condition(kernel, "Tcondbreak n 6", 'n', 6);
+    condition(kernel, "Tcondbreak b 0x103a", 'b', 0x103a);
+    ask_text(kernel, 'D', LIMIT, 0xffffffff);
+    ask_text(kernel, 'd', LIMIT, 0);
+}
+
 static void speak_in_frames(struct kernel *kernel) {
     /* Requests are framed as replies are. */
     const struct sanirvoq_fields fields = {.kind = SANIRVOQ_MSG_TMGET, .value = SITE, .n = 8};
@@ -402,6 +417,7 @@ int main(void) {
     stop_other(&kernel);
     speak_text(&kernel);
     be_refused(&kernel);
+    keep_off_the_limit(&kernel);
     speak_in_frames(&kernel);
     restart(&kernel);
     compare(&kernel);

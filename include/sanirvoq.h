@@ -26,8 +26,8 @@
  * and a call is not made from an interrupt that came during another call with the same record. Calls with different
  * records and buffers may run at once.
  *
- * Stack. A step takes at most 1,568 bytes on x86-64, as measured (docs/PERFORMANCE.md); no theorem bounds it. The calls
- * that need no record take less.
+ * Stack. Lend a call 2,048 bytes: a step takes less, as measured (docs/PERFORMANCE.md has the figures), and the calls
+ * that need no record less again. No theorem bounds it.
  *
  * x86-64. The archive is compiled as for user space. It uses the red zone, the 128 bytes below the stack pointer, so
  * an interrupt that comes during a call must run on another stack (an IST entry), or interrupts are off. It uses the
@@ -59,7 +59,7 @@
 /* The edition of this interface. The minor number rises where a function, a record or the meaning of a number
  * changes. */
 #define SANIRVOQ_VERSION_MAJOR 0
-#define SANIRVOQ_VERSION_MINOR 2
+#define SANIRVOQ_VERSION_MINOR 3
 
 /* On a function whose result must not be dropped. */
 #if defined(__GNUC__)
@@ -101,8 +101,8 @@ enum {
     SANIRVOQ_FRAME_BODY_SIZE = 532,   /* bytes of the longest body of a packet */
     SANIRVOQ_FRAME_BUFFER_SIZE = 534, /* bytes of the shortest body buffer: a body and its checksum */
     SANIRVOQ_FRAME_REPLY_SIZE = 26,   /* bytes of a framed reply */
-    SANIRVOQ_TARGET_SIZE = 168,       /* bytes of struct sanirvoq_target */
-    SANIRVOQ_RECORD_SIZE = 1192       /* bytes of struct sanirvoq_record */
+    SANIRVOQ_TARGET_SIZE = 176,       /* bytes of struct sanirvoq_target */
+    SANIRVOQ_RECORD_SIZE = 1200       /* bytes of struct sanirvoq_record */
 };
 
 /* ---- numbers: what became of a call ---- */
@@ -175,6 +175,8 @@ struct sanirvoq_process {
 struct sanirvoq_target {
     uint32_t base;                                         /* the window's address */
     uint32_t size;                                         /* its bytes */
+    uint32_t protected_offset;                             /* the protected stretch: its first byte, from base on */
+    uint32_t protected_length;                             /* its bytes */
     uint32_t count;                                        /* how many processes there are */
     struct sanirvoq_process processes[SANIRVOQ_PROCESSES]; /* in the order of their blocks in the register area */
     uint8_t selected;                                      /* 1 where a process is current */
@@ -200,10 +202,11 @@ SANIRVOQ_ASSERT(sizeof(struct sanirvoq_draft) == 3, "the size of the condition i
 SANIRVOQ_ASSERT(sizeof(struct sanirvoq_table) == 100, "the table's size");
 SANIRVOQ_ASSERT(offsetof(struct sanirvoq_table, draft) == 96, "where the condition in hand is");
 SANIRVOQ_ASSERT(sizeof(struct sanirvoq_process) == 12, "the size of a process");
-SANIRVOQ_ASSERT(offsetof(struct sanirvoq_target, processes) == 12, "where the processes are");
-SANIRVOQ_ASSERT(offsetof(struct sanirvoq_target, selected) == 60, "where the mark of a current process is");
-SANIRVOQ_ASSERT(offsetof(struct sanirvoq_target, current) == 64, "where the current process is");
-SANIRVOQ_ASSERT(offsetof(struct sanirvoq_target, table) == 68, "where the table is");
+SANIRVOQ_ASSERT(offsetof(struct sanirvoq_target, protected_offset) == 8, "where the protected stretch is");
+SANIRVOQ_ASSERT(offsetof(struct sanirvoq_target, processes) == 20, "where the processes are");
+SANIRVOQ_ASSERT(offsetof(struct sanirvoq_target, selected) == 68, "where the mark of a current process is");
+SANIRVOQ_ASSERT(offsetof(struct sanirvoq_target, current) == 72, "where the current process is");
+SANIRVOQ_ASSERT(offsetof(struct sanirvoq_target, table) == 76, "where the table is");
 SANIRVOQ_ASSERT(sizeof(struct sanirvoq_target) == SANIRVOQ_TARGET_SIZE, "the size of the record without its places");
 SANIRVOQ_ASSERT(offsetof(struct sanirvoq_record, places) == SANIRVOQ_TARGET_SIZE, "where the record's places are");
 SANIRVOQ_ASSERT(sizeof(struct sanirvoq_record) == SANIRVOQ_RECORD_SIZE, "the record's size");
@@ -256,13 +259,13 @@ SANIRVOQ_CHECKED static inline uint8_t sanirvoq_second(uint32_t result) { return
  * (SANIRVOQ_BLOCK_SIZE bytes for each process), a pid, a byte, an input and a reply. What a step does not use it leaves
  * as it is; a pointer must be valid all the same. They give a result. */
 
-/* A setup. Takes base, size, count and the pids and addresses of the first count processes from the target, and makes
- * the rest of the target. It has no places, for none is held then, and uses none of the last four. Numbers 0, 1, 2. */
+/* A setup. Takes base, size, count and the pids and addresses of the first count processes from the target, the
+ * protected stretch from the last two arguments, and makes the rest of the target. It has no places, for none is held
+ * then. Numbers 0, 1, 2. */
 SANIRVOQ_CHECKED uint32_t sanirvoq_step_setup(struct sanirvoq_target *target, uint8_t *memory,
                                               sanirvoq_length memory_length, uint8_t *registers,
-                                              sanirvoq_length registers_length, uint32_t pid, uint8_t value,
-                                              const uint8_t *input, sanirvoq_length input_length, uint8_t *reply,
-                                              sanirvoq_length reply_length);
+                                              sanirvoq_length registers_length, uint64_t protected_from,
+                                              uint64_t protected_to);
 
 /* A request. Uses input (ten bytes) and reply (ten bytes). Numbers 0, 2, 3. */
 SANIRVOQ_CHECKED uint32_t sanirvoq_step_request(struct sanirvoq_target *target, uint32_t *places, uint8_t *memory,
@@ -322,13 +325,17 @@ struct sanirvoq_setup_process {
     uint32_t address;
 };
 
-/* What a setup is given. The rules: size is a multiple of 4, from 4 to 65,536; base is a multiple of 4, at least 4,096,
- * and base + size at most 2^32; count is 1 to SANIRVOQ_PROCESSES, and the pids of the first count processes are at
- * least 1 and no two alike. */
+/* What a setup is given. The protected stretch is a part of the window that the host may read, and that no request of
+ * either dialect writes to and no breakpoint stands in, such as the limits of a laser's power. The rules: size is a
+ * multiple of 4, from 4 to 65,536; base is a multiple of 4, at least 4,096, and base + size at most 2^32;
+ * protected_from and protected_to are multiples of 4, and base <= protected_from <= protected_to <= base + size; count
+ * is 1 to SANIRVOQ_PROCESSES, and the pids of the first count processes are at least 1 and no two alike. */
 struct sanirvoq_setup {
-    uint32_t base;  /* the address that the host uses for the first byte of the window */
-    uint32_t size;  /* the bytes of the window */
-    uint32_t count; /* how many processes there are */
+    uint32_t base;           /* the address that the host uses for the first byte of the window */
+    uint32_t size;           /* the bytes of the window */
+    uint64_t protected_from; /* the address of the first protected byte; base where nothing is protected */
+    uint64_t protected_to;   /* the first address behind the last one; base where nothing is protected */
+    uint32_t count;          /* how many processes there are */
     struct sanirvoq_setup_process processes[SANIRVOQ_PROCESSES];
 };
 
@@ -338,7 +345,6 @@ struct sanirvoq_setup {
 SANIRVOQ_CHECKED static inline uint8_t sanirvoq_setup(struct sanirvoq_record *record, struct sanirvoq_lent lent,
                                                       const struct sanirvoq_setup *setup) {
     struct sanirvoq_target *target = &record->target;
-    uint8_t none = 0;
     target->base = setup->base;
     target->size = setup->size;
     target->count = setup->count;
@@ -347,7 +353,7 @@ SANIRVOQ_CHECKED static inline uint8_t sanirvoq_setup(struct sanirvoq_record *re
         target->processes[i].address = setup->processes[i].address;
     }
     return sanirvoq_number(sanirvoq_step_setup(target, lent.memory, lent.memory_length, lent.registers,
-                                               lent.registers_length, 0, 0, &none, 0, &none, 0));
+                                               lent.registers_length, setup->protected_from, setup->protected_to));
 }
 
 /* A request came over the line. Its reply, which may be an Rerr, goes back to the host. Gives a result: number 0, 2
@@ -405,6 +411,7 @@ SANIRVOQ_CHECKED static inline uint8_t sanirvoq_restart(struct sanirvoq_record *
 /* What the reply to a text request says where it failed: the number behind the error flag SANIRVOQ_TEXT_ERROR. */
 enum sanirvoq_errno {
     SANIRVOQ_ERRNO_ESRCH = 3,   /* a PID that is not 0; or registers, and no process is current */
+    SANIRVOQ_ERRNO_EACCES = 13, /* a write to a word that has a protected byte */
     SANIRVOQ_ERRNO_EFAULT = 14, /* a word that is not all in the window */
     SANIRVOQ_ERRNO_EBUSY = 16,  /* registers of a current process that is not Stopped */
     SANIRVOQ_ERRNO_EINVAL = 22  /* a letter that is not served; an address that is no multiple of 4; a register over 33,

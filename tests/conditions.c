@@ -56,7 +56,8 @@ static int stands(size_t index, uint32_t count, uint32_t first) {
 }
 
 static void set_up(void) {
-    const struct sanirvoq_setup setup = {.base = BASE, .size = SIZE, .count = 1, .processes = {{PID, 0}}};
+    const struct sanirvoq_setup setup = {
+        .base = BASE, .size = SIZE, .protected_from = BASE, .protected_to = BASE, .count = 1, .processes = {{PID, 0}}};
     /* Whatever the places hold is of no account. */
     memset(&record, 0xff, sizeof record);
     expect(sanirvoq_setup(&record, lent, &setup) == SANIRVOQ_OK, "setup");

@@ -9,8 +9,12 @@
 
 enum { BASE = 0x1000, SIZE = 64, AREA = 2 * SANIRVOQ_BLOCK_SIZE, FILL = 0xee };
 
-static const struct sanirvoq_setup two = {
-    .base = BASE, .size = SIZE, .count = 2, .processes = {{5, 0x80001000}, {7, 0x80002000}}};
+static const struct sanirvoq_setup two = {.base = BASE,
+                                          .size = SIZE,
+                                          .protected_from = BASE,
+                                          .protected_to = BASE,
+                                          .count = 2,
+                                          .processes = {{5, 0x80001000}, {7, 0x80002000}}};
 
 static int failed;
 
@@ -66,6 +70,7 @@ static int same_record(const struct sanirvoq_record *a, const struct sanirvoq_re
     const struct sanirvoq_target *one = &a->target, *other = &b->target;
     const struct sanirvoq_draft *draft = &one->table.draft, *hand = &other->table.draft;
     int same = one->base == other->base && one->size == other->size && one->count == other->count &&
+               one->protected_offset == other->protected_offset && one->protected_length == other->protected_length &&
                one->selected == other->selected && one->current == other->current && draft->active == hand->active &&
                draft->id == hand->id && draft->count == hand->count;
     for (int i = 0; i < SANIRVOQ_PROCESSES; i++) {
@@ -141,7 +146,7 @@ static void exports(void) {
         target->processes[i].pid = two.processes[i].pid;
         target->processes[i].address = two.processes[i].address;
     }
-    other = sanirvoq_step_setup(target, memory, SIZE, registers, AREA, 9, 9, &none, 1, &none, 1);
+    other = sanirvoq_step_setup(target, memory, SIZE, registers, AREA, two.protected_from, two.protected_to);
     expect_same(one, other, &a, &b, "setup");
     plant(&a, 4, 0x1008);
     plant(&b, 4, 0x1008);
@@ -208,6 +213,15 @@ static void setups(void) {
     setup = two;
     setup.count = 5;
     expect(sanirvoq_setup(kernel.record, lent, &setup) == SANIRVOQ_ERR_SETUP, "five processes");
+    setup = two;
+    setup.protected_from = BASE + 4;
+    expect(sanirvoq_setup(kernel.record, lent, &setup) == SANIRVOQ_ERR_SETUP, "a stretch that ends before it begins");
+    setup = two;
+    setup.protected_to = BASE + SIZE + 4;
+    expect(sanirvoq_setup(kernel.record, lent, &setup) == SANIRVOQ_ERR_SETUP, "a stretch past the window");
+    setup.protected_from = BASE + (UINT64_C(1) << 32);
+    setup.protected_to = BASE + 4 + (UINT64_C(1) << 32);
+    expect(sanirvoq_setup(kernel.record, lent, &setup) == SANIRVOQ_ERR_SETUP, "a stretch past 32 bits");
     setup = two;
     setup.size = 65540;
     expect(sanirvoq_setup(kernel.record, lent, &setup) == SANIRVOQ_ERR_SETUP, "a window that is too large");
@@ -305,6 +319,31 @@ static void errnos(void) {
     fails(&kernel, "0x0 c 0x1004 0x0", SANIRVOQ_ERRNO_EINVAL);
     ask(&kernel, request(SANIRVOQ_MSG_TPROC, 5, 0, 0), SANIRVOQ_MSG_RPROC, 0, "Tproc");
     fails(&kernel, "0x0 r 0x1 0x0", SANIRVOQ_ERRNO_EBUSY);
+    free_kernel(kernel);
+}
+
+/* ---- the protected stretch ---- */
+
+static void protects(void) {
+    struct kernel kernel = made();
+    struct sanirvoq_setup setup = two;
+    setup.protected_from = BASE + 8;
+    setup.protected_to = BASE + 16;
+    expect(sanirvoq_setup(kernel.record, kernel.lent, &setup) == SANIRVOQ_OK, "a setup with a stretch");
+    expect(kernel.record->target.protected_offset == 8 && kernel.record->target.protected_length == 8, "its place");
+    ask(&kernel, request(SANIRVOQ_MSG_TMPUT, BASE + 7, 0, 1), SANIRVOQ_MSG_RMPUT, 0, "a byte before it");
+    ask(&kernel, request(SANIRVOQ_MSG_TMPUT, BASE + 16, 0, 1), SANIRVOQ_MSG_RMPUT, 0, "a byte behind it");
+    ask(&kernel, request(SANIRVOQ_MSG_TMGET, BASE + 8, 0, 8), SANIRVOQ_MSG_RMGET, 0, "a read of it");
+    ask(&kernel, request(SANIRVOQ_MSG_TMPUT, BASE + 7, 0, 2), SANIRVOQ_MSG_RERR, 0, "a write that touches it");
+    expect(sanirvoq_message_decode(kernel.reply, 10).fields.code == SANIRVOQ_REASON_UNSUP, "unsup");
+    ask(&kernel, request(SANIRVOQ_MSG_TCONDBREAK, 1, 'n', 0), SANIRVOQ_MSG_RCONDBREAK, 0, "n");
+    ask(&kernel, request(SANIRVOQ_MSG_TCONDBREAK, BASE + 14, 'b', 0), SANIRVOQ_MSG_RERR, 0, "a site in it");
+    expect(sanirvoq_message_decode(kernel.reply, 10).fields.code == SANIRVOQ_REASON_UNSUP, "unsup");
+    fails(&kernel, "0x0 D 0x1008 0x0", SANIRVOQ_ERRNO_EACCES);
+    fails(&kernel, "0x0 I 0x100c 0x0", SANIRVOQ_ERRNO_EACCES);
+    for (uint8_t i = 8; i < 16; i++) {
+        expect(kernel.lent.memory[i] == i, "a protected byte");
+    }
     free_kernel(kernel);
 }
 
@@ -483,6 +522,7 @@ int main(void) {
     setups();
     refusals();
     errnos();
+    protects();
     places();
     put_back();
     texts_of_messages();

@@ -150,6 +150,12 @@ conditions_c() {
     c11 -O2 -Iinclude tests/conditions.c "$library" -o "$logs/conditions_c" && under_valgrind "$logs/conditions_c"
 }
 
+# The calls' own description beside the independent stub: two opinions on the stored calls of kind 11.
+protected_calls() {
+    crate build reference --example protected_calls &&
+        python3 tests/protected_calls.py rust/target/release/examples/protected_calls
+}
+
 example_rust() {
     crate run sanirvoq --example kernel > "$logs/kernel_rust.txt" &&
         diff examples/kernel.txt "$logs/kernel_rust.txt"
@@ -191,6 +197,7 @@ check calls_vectors python3 tests/calls_vectors.py --check
 check wire_vectors python3 tests/wire_vectors.py --check
 check frame_vectors python3 tests/frame_vectors.py --check
 check program_vectors python3 tests/program_vectors.py --check
+check protected_calls protected_calls
 check compare_tests tests_of compare
 check compare crate run compare -- --seed 1 --steps 300000
 check compare_frames crate run compare --bin compare_frames -- --seed 1 --lines 100000 --damaged 100000

@@ -7,7 +7,7 @@
 Each block marked `session` is one run. A line is a step and, after `<`, its answer without the number, which is 0:
 `> TEN BYTES`, `trap PID PC`, `schedule PID PC`, `state PID VALUE` or `restart`. A block marked `text-session` has no
 `trap` and no `state`, but `text REQUEST` with its reply after `<`, and `text ROOM: REQUEST` over a buffer of so many
-bytes, with its number after `<`.
+bytes, with its number after `<`; where it begins with `protect FROM TO`, its setup has that stretch.
 """
 
 import re
@@ -49,7 +49,7 @@ def encoded(text):
 def blocks(mark):
     """The lines of each block with this mark, as pairs of a step's text and its answer."""
     for block in re.findall(rf"^```{mark}\n(.*?)^```$", DOCUMENT.read_text(), re.DOTALL | re.MULTILINE):
-        yield [tuple(part.strip() for part in line.split("<")) for line in block.splitlines()]
+        yield [tuple(part.strip() for part in line.partition("<")[::2]) for line in block.splitlines()]
 
 
 def run(program, data):
@@ -76,6 +76,8 @@ def session(program):
 
 def text_pair(step, answer):
     """A step of a text session as tests/text_step_vectors.py has it, with its answer."""
+    if step.startswith("protect "):
+        return (vectors.PROTECT, *(int(address, 0) for address in step.split()[1:])), b""
     if not step.startswith("text "):
         kind, body = encoded(step)[0], encoded(step)[1:]
         arguments = [int.from_bytes(body[:4], "big"), body[4:]] if kind == vectors.SCHEDULE else [body]

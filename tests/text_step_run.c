@@ -8,6 +8,7 @@
  *     5   restart                                           number, reply[10]
  *     6   text room[4] length[4] request[length]            number, error, filled, buffer[room]
  *     7   look                                              memory[64], registers[272]
+ *     8   begin anew, protected from[8] to[8]               nothing
  *
  * A refused step of kind 1, 3 or 5 writes its number only. Another kind, or a step that is cut short, ends it with exit
  * status 1. */
@@ -49,14 +50,30 @@ static void give_answer(uint8_t number, const uint8_t *bytes, size_t length) {
     give(bytes, number == SANIRVOQ_OK ? length : 0);
 }
 
-static void begin(void) {
-    const struct sanirvoq_setup setup = {
-        .base = BASE, .size = SIZE, .count = PROCESSES, .processes = {{5, 0x80001000}, {7, 0x80002000}}};
+static void set_up(uint64_t from, uint64_t to) {
+    const struct sanirvoq_setup setup = {.base = BASE,
+                                         .size = SIZE,
+                                         .protected_from = from,
+                                         .protected_to = to,
+                                         .count = PROCESSES,
+                                         .processes = {{5, 0x80001000}, {7, 0x80002000}}};
     memset(registers, 0, AREA);
     for (int i = 0; i < SIZE; i++) {
         memory[i] = (uint8_t)i;
     }
     stop_unless(sanirvoq_setup(&record, lent, &setup) == SANIRVOQ_OK, "setup");
+}
+
+static void begin(void) { set_up(BASE, BASE); }
+
+static uint64_t take_wide(void) {
+    const uint64_t high = take_word();
+    return high << 32 | take_word();
+}
+
+static void protect(void) {
+    const uint64_t from = take_wide();
+    set_up(from, take_wide());
 }
 
 static void request(void) {
@@ -103,7 +120,7 @@ static void look(void) {
 }
 
 int main(void) {
-    static void (*const steps[])(void) = {begin, request, NULL, schedule, NULL, restart, text, look};
+    static void (*const steps[])(void) = {begin, request, NULL, schedule, NULL, restart, text, look, protect};
     const int kinds = sizeof steps / sizeof steps[0];
     for (int kind = getchar(); kind != EOF; kind = getchar()) {
         stop_unless(kind < kinds && steps[kind] != NULL, "another kind");

@@ -164,9 +164,10 @@ class Stub:
         return 0, previous
 
 
-# ---- The format: that of the program of 01, with a kind 0 that begins anew, 6 for a text step and 7 for a look. ----
+# ---- The format: that of the program of 01, with a kind 0 that begins anew, 6 for a text step, 7 for a look and 8 that
+# begins anew with a protected stretch (of docs/PROTOCOL.md only). ----
 
-BEGIN, REQUEST, SCHEDULE, RESTART, TEXT, LOOK = 0, 1, 3, 5, 6, 7
+BEGIN, REQUEST, SCHEDULE, RESTART, TEXT, LOOK, PROTECT = 0, 1, 3, 5, 6, 7, 8
 
 
 def step_bytes(step):
@@ -181,6 +182,8 @@ def step_bytes(step):
     if kind == TEXT:
         request, room = arguments
         return head + word(room) + word(len(request)) + request
+    if kind == PROTECT:
+        return head + b"".join(address.to_bytes(8, "big") for address in arguments)
     return head
 
 
@@ -191,7 +194,7 @@ def answer_bytes(step, answer):
         number, error, text = answer
         buffer = text + bytes([FILL]) * (arguments[1] - len(text))
         return bytes([number, error, len(text)]) + buffer
-    if kind == BEGIN:
+    if kind in (BEGIN, PROTECT):
         return b""
     if kind == LOOK:
         return answer
@@ -502,7 +505,7 @@ def shown(step, answer):
         return f"text {request!r} over {room} bytes: number {number}, error {error}, {text!r}"
     if kind == LOOK:
         return f"     memory {answer[:SIZE].hex()}"
-    names = {BEGIN: "begin", REQUEST: "request", SCHEDULE: "schedule", RESTART: "restart"}
+    names = {BEGIN: "begin", PROTECT: "protect", REQUEST: "request", SCHEDULE: "schedule", RESTART: "restart"}
     return f"{names[kind]} {step_bytes(step)[1:11].hex(' ')}: {answer.hex(' ')}"
 
 

@@ -32,8 +32,12 @@ static uint8_t *lend(size_t length, uint8_t byte) {
 }
 
 static void set_up(struct kernel *kernel) {
-    const struct sanirvoq_setup setup = {
-        .base = BASE, .size = SIZE, .count = PROCESSES, .processes = {{5, 0x80001000}, {7, 0x80002000}}};
+    const struct sanirvoq_setup setup = {.base = BASE,
+                                         .size = SIZE,
+                                         .protected_from = BASE,
+                                         .protected_to = BASE,
+                                         .count = PROCESSES,
+                                         .processes = {{5, 0x80001000}, {7, 0x80002000}}};
     const size_t registers = (size_t)PROCESSES * SANIRVOQ_BLOCK_SIZE;
     /* Places need no value; these are compared later. */
     memset(&kernel->record, FILL, sizeof kernel->record);

@@ -2,7 +2,7 @@
 
 use crate::proved::{Caller, Direct, Proved};
 use crate::rust_stub::RustStub;
-use crate::side::{Event, Request, Side, BASE, LAST, PROCESSES};
+use crate::side::{protected, Event, Request, Side, BASE, LAST, PROCESSES};
 use crate::work::{run, Work};
 
 /// The breakpoints that stand, each with a condition of four elements unless the case says
@@ -455,8 +455,10 @@ fn refusals(window: u32) -> Vec<Case> {
     let each = |(fill, unfit)| {
         let read = tmget(clear(window));
         let count = ten(TMGET, clear(window), &[10]);
+        let protected = tmput(protected(window).start as u32);
         [
             refused("refused, count", fill, count, Spoil::Nothing, (0, RERR)),
+            refused("refused, protected", fill, protected, Spoil::Nothing, (0, RERR)),
             refused("refused, number 3", fill, read, unfit, (3, 0)),
             refused("refused, number 2", fill, read, Spoil::Reply, (2, 0)),
         ]

@@ -1,10 +1,11 @@
 //! The proved stub through its C interface, the record lent by `&mut` as a kernel would.
 
-use crate::side::{Event, Lent, Request, Side, BASE, LAST, PROCESSES};
+use crate::side::{protected, Event, Lent, Request, Side, BASE, LAST, PROCESSES};
 use reference::READY;
 use sanirvoq::call::{self, Kind};
 use sanirvoq::ffi;
 use std::hint::black_box;
+use std::ops::Range;
 
 /// How a step is called: directly to be timed, or on a painted stack.
 pub trait Caller: Default {
@@ -40,7 +41,8 @@ impl<C: Caller> Proved<C> {
             _ => &mut [],
         };
         let record = &mut *self.record;
-        let lent = call::Lent { record, memory, registers, pid, value, input, reply };
+        let Range { start: from, end: to } = protected(memory.len() as u32);
+        let lent = call::Lent { record, memory, registers, from, to, pid, value, input, reply };
         black_box(self.caller.call(kind, lent))
     }
 }

@@ -2,7 +2,7 @@
 //! same byte by byte, the Rust stub's, and a copy that knows of no site.
 
 use crate::cases::{apart, clear, standing, together};
-use crate::side::{BASE, PROCESSES};
+use crate::side::{protected, BASE, PROCESSES};
 use crate::worker::Worker;
 use bench_stub::{Stub, BLOCK, ENTRIES, MESSAGE};
 use std::hint::black_box;
@@ -81,7 +81,8 @@ impl Scene {
         let mut memory: Vec<u8> = (0..WINDOW).map(|i| i as u8).collect();
         let (mut registers, mut reply) = (vec![0; PROCESSES.len() * BLOCK], [0; MESSAGE]);
         let mut stub = Stub::default();
-        stub.setup(BASE, WINDOW, &PROCESSES, &memory, &registers).expect("a setup");
+        let done = stub.setup(BASE, WINDOW, protected(WINDOW), &PROCESSES, &memory, &registers);
+        done.expect("a setup");
         for request in standing(ENTRIES as u32, WINDOW, sites_of) {
             stub.request(&mut memory, &mut registers, &request, &mut reply).expect("a request");
         }

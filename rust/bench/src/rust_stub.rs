@@ -3,7 +3,7 @@
 //! Each step is called through a function that is never inlined: the call stays a call, as that of
 //! a library is, and the step is not specialised to the benchmark's loops.
 
-use crate::side::{Event, Lent, Request, Side, BASE, LAST, PROCESSES};
+use crate::side::{protected, Event, Lent, Request, Side, BASE, LAST, PROCESSES};
 use bench_stub::{Refusal, Replied, Stub, Verdict, READY};
 use std::hint::black_box;
 
@@ -15,7 +15,8 @@ pub struct RustStub {
 
 #[inline(never)]
 fn setup(stub: &mut Stub, lent: &Lent, base: u32, list: &[(u32, u32)]) -> Result<(), Refusal> {
-    stub.setup(base, lent.memory.len() as u32, list, &lent.memory, &lent.registers)
+    let size = lent.memory.len() as u32;
+    stub.setup(base, size, black_box(protected(size)), list, &lent.memory, &lent.registers)
 }
 
 #[inline(never)]

@@ -1,6 +1,7 @@
 //! What the benchmark asks of a stub, so that the proved one and the Rust one get the same work.
 
 use reference::{BLOCK, LONGEST_TEXT, MESSAGE, PC};
+use std::ops::Range;
 
 /// The address of every window.
 pub const BASE: u32 = 4_096;
@@ -9,6 +10,13 @@ pub const PROCESSES: [(u32, u32); 4] =
     [(5, 0x8000_1000), (7, 0x8000_2000), (9, 0x8000_3000), (11, 0x8000_4000)];
 /// The process that the timed steps are about: the last one listed, so the last one found.
 pub const LAST: usize = PROCESSES.len() - 1;
+
+/// The protected stretch of a window: its last word, which no case writes but to be refused.
+#[inline(always)]
+pub fn protected(window: u32) -> Range<u64> {
+    let end = u64::from(BASE) + u64::from(window);
+    end - 4..end
+}
 
 pub type Request = [u8; MESSAGE];
 

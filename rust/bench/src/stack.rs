@@ -78,20 +78,20 @@ impl Painted {
 
 /// A step's function and its arguments, in their order, as words.
 fn spelled(kind: Kind, lent: Lent<'_>) -> (*const (), Vec<usize>) {
-    let Lent { record, memory, registers, pid, value, input, reply } = lent;
+    let Lent { record, memory, registers, from, to, pid, value, input, reply } = lent;
     let target = (&raw mut record.target).expose_provenance();
-    let (function, mut words) = match kind.function() {
-        Some(step) => {
-            (step as *const (), vec![target, record.places.as_mut_ptr().expose_provenance()])
-        }
-        None => (ffi::sanirvoq_step_setup as *const (), vec![target]),
+    let places = record.places.as_mut_ptr().expose_provenance();
+    let window = [memory.as_mut_ptr().expose_provenance(), memory.len()];
+    let area = [registers.as_mut_ptr().expose_provenance(), registers.len()];
+    let Some(step) = kind.function() else {
+        let stretch = [from as usize, to as usize];
+        let words = [&[target][..], &window, &area, &stretch].concat();
+        return (ffi::sanirvoq_step_setup as *const (), words);
     };
-    words.extend([memory.as_mut_ptr().expose_provenance(), memory.len()]);
-    words.extend([registers.as_mut_ptr().expose_provenance(), registers.len()]);
-    words.extend([pid as usize, usize::from(value)]);
-    words.extend([input.as_ptr().expose_provenance(), input.len()]);
-    words.extend([reply.as_mut_ptr().expose_provenance(), reply.len()]);
-    (function, words)
+    let (input, input_length) = (input.as_ptr().expose_provenance(), input.len());
+    let (reply, reply_length) = (reply.as_mut_ptr().expose_provenance(), reply.len());
+    let rest = [pid as usize, usize::from(value), input, input_length, reply, reply_length];
+    (step as *const (), [&[target, places][..], &window, &area, &rest].concat())
 }
 
 impl Caller for Painted {
@@ -167,7 +167,8 @@ mod tests {
         let (target, places) = ((&raw const record.target).addr(), record.places.as_ptr().addr());
         let first = [target, places, block, 5, area, 11];
         let pushed = Pushed([13, 17, input.as_ptr().addr(), 23, reply.as_ptr().addr(), 31]);
-        let lent = Lent { record, memory, registers, pid: 13, value: 17, input, reply };
+        let (from, to, pid, value) = (0, 0, 13, 17);
+        let lent = Lent { record, memory, registers, from, to, pid, value, input, reply };
         let (_, arguments) = spelled(Kind::Request, lent);
         // SAFETY: the function's writes are within the stack.
         let (result, used) = unsafe { painted.measure(function, &arguments) };

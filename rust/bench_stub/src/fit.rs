@@ -29,6 +29,9 @@ impl Stub {
         if !self.window_fits() || !self.processes_fit() || !self.current_fits() {
             return None;
         }
+        if !self.stretch_fits() {
+            return None;
+        }
         self.scan_table(memory)
     }
 
@@ -48,6 +51,13 @@ impl Stub {
         (self.size | self.base) & 3 == 0 && size && self.base >= 4_096 && end <= 1 << 32
     }
 
+    /// The bounds on the protected stretch.
+    #[inline(always)]
+    fn stretch_fits(&self) -> bool {
+        let (offset, length) = (self.protected_offset, self.protected_length);
+        (offset | length) & 3 == 0 && offset <= self.size && length <= self.size - offset
+    }
+
     /// One to four processes, pids distinct and at least 1, none Stopped with a stop wanted.
     #[inline(always)]
     pub(crate) fn processes_fit(&self) -> bool {
@@ -63,8 +73,8 @@ impl Stub {
         !list.is_empty()
     }
 
-    /// Sites hold traps, conditions are well formed and find places (the pool's own length bounds
-    /// them), ids and sites differ; then the condition in hand.
+    /// Sites hold traps off the protected stretch, conditions are well formed and find places (the
+    /// pool's own length bounds them), ids and sites differ; then the condition in hand.
     #[inline(always)]
     fn scan_table(&self, memory: &[u8]) -> Option<Scan> {
         let (mut planted, mut used, mut met) = (0, 0, false);
@@ -75,6 +85,9 @@ impl Stub {
             let end = planted + usize::from(entry.count);
             let condition = self.places.get(planted..end)?;
             if entry.site & 1 != 0 || *trap != TRAP || !whole(condition.len(), depth(condition)) {
+                return None;
+            }
+            if self.site_is_protected(at) {
                 return None;
             }
             let (of, bit) = (usize::from(entry.id >> 6), 1 << (entry.id & 63));

@@ -2,6 +2,7 @@
 
 use crate::condition::Element;
 use crate::{BLOCK, ENTRIES, PLACES, PROCESSES, READY};
+use std::ops::Range;
 
 /// Why a step was refused; the numbers are those of 01's table.
 #[derive(Debug, Clone, Copy, PartialEq, Eq)]
@@ -52,6 +53,9 @@ pub struct Draft {
 pub struct Stub {
     pub base: u32,
     pub size: u32,
+    /// The protected stretch, from the window's first byte on.
+    pub protected_offset: u32,
+    pub protected_length: u32,
     pub count: usize,
     pub processes: [Process; PROCESSES],
     pub current: Option<u32>,
@@ -67,6 +71,8 @@ impl Default for Stub {
         Self {
             base: 0,
             size: 0,
+            protected_offset: 0,
+            protected_length: 0,
             count: 0,
             processes: Default::default(),
             current: None,
@@ -83,6 +89,7 @@ impl Stub {
         &mut self,
         base: u32,
         size: u32,
+        protected: Range<u64>,
         processes: &[(u32, u32)],
         memory: &[u8],
         registers: &[u8],
@@ -95,7 +102,7 @@ impl Stub {
             *process = Process { pid, address, state: READY, wanted: false };
         }
         (self.base, self.size, self.count) = (base, size, processes.len());
-        let done = if !self.window_fits() || !self.processes_fit() {
+        let done = if !self.window_fits() || !self.processes_fit() || !self.protect(protected) {
             Err(Refusal::Setup)
         } else {
             self.lent(memory, registers)
@@ -106,8 +113,21 @@ impl Stub {
         done
     }
 
+    /// Takes a stretch; answers whether it is one of the window.
+    #[inline(always)]
+    fn protect(&mut self, Range { start, end }: Range<u64>) -> bool {
+        let (base, size) = (u64::from(self.base), u64::from(self.size));
+        let sound = (start | end) & 3 == 0 && base <= start && start <= end && end <= base + size;
+        if sound {
+            self.protected_offset = (start - base) as u32;
+            self.protected_length = (end - start) as u32;
+        }
+        sound
+    }
+
     fn clear(&mut self) {
         (self.base, self.size, self.count) = (0, 0, 0);
+        (self.protected_offset, self.protected_length) = (0, 0);
         (self.processes, self.current) = (Default::default(), None);
         (self.entries, self.draft) = (Default::default(), Draft::default());
     }

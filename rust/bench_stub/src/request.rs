@@ -113,7 +113,11 @@ impl Stub {
             let start = self.block_part(address as usize, n)?;
             registers[start..start + n].copy_from_slice(data);
         } else if n > 0 {
-            self.write_plain(memory, address, data).ok_or(INVAL)?;
+            let at = self.offset(address, n).ok_or(INVAL)?;
+            if self.protects(at, n) {
+                return Err(UNSUP);
+            }
+            self.write_plain(memory, at, data).ok_or(INVAL)?;
         }
         Ok(plain(5))
     }
@@ -227,7 +231,13 @@ impl Stub {
     fn set(&mut self, memory: &mut [u8], site: u32, scan: Scan) -> Result<(), Reply> {
         let Draft { active, id, count } = self.draft;
         let at = self.offset(site, 2).filter(|_| active && site & 1 == 0).ok_or(INVAL)?;
-        if scan.depth != 1 || self.at_site(site).is_some() {
+        if self.at_site(site).is_some() {
+            return Err(INVAL);
+        }
+        if self.site_is_protected(at) {
+            return Err(UNSUP);
+        }
+        if scan.depth != 1 {
             return Err(INVAL);
         }
         let index = self.entries.iter().position(|entry| !entry.used).ok_or(INVAL)?;

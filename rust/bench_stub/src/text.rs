@@ -9,6 +9,7 @@ pub const TEXT: usize = 34;
 const FAILED: u32 = u32::MAX;
 
 const ESRCH: u32 = 3;
+const EACCES: u32 = 13;
 const EFAULT: u32 = 14;
 const EBUSY: u32 = 16;
 const EINVAL: u32 = 22;
@@ -133,7 +134,11 @@ impl Stub {
         }
         let previous = self.word_at(memory, at).ok_or(EFAULT)?;
         if let Some(data) = data {
-            self.write_plain(memory, at, &data.to_le_bytes()).ok_or(EFAULT)?;
+            let start = (at - self.base) as usize;
+            if self.protects(start, 4) {
+                return Err(EACCES);
+            }
+            self.write_plain(memory, start, &data.to_le_bytes()).ok_or(EFAULT)?;
         }
         Ok(previous)
     }

@@ -12,6 +12,19 @@ impl Stub {
         inside.then_some(start)
     }
 
+    /// Whether an even offset is one of the stretch, which then has the byte after it too.
+    #[inline(always)]
+    pub(crate) fn site_is_protected(&self, at: usize) -> bool {
+        at.wrapping_sub(self.protected_offset as usize) < self.protected_length as usize
+    }
+
+    /// Whether one of `n` bytes from an offset of the window on is protected.
+    #[inline(always)]
+    pub(crate) fn protects(&self, at: usize, n: usize) -> bool {
+        let (from, length) = (self.protected_offset as usize, self.protected_length as usize);
+        length > 0 && at < from + length && from < at + n
+    }
+
     /// Fills `out` with plain bytes.
     #[inline(always)]
     pub fn read_plain(&self, memory: &[u8], address: u32, out: &mut [u8]) -> Option<()> {
@@ -46,10 +59,16 @@ impl Stub {
         Some(u32::from_le_bytes(bytes))
     }
 
-    /// Writes plain bytes; a byte under a trap goes to the entry and the trap stays.
+    /// Writes plain bytes from an offset of the window on; a byte under a trap goes to the entry and the
+    /// trap stays.
     #[inline(always)]
-    pub fn write_plain(&mut self, memory: &mut [u8], address: u32, data: &[u8]) -> Option<()> {
-        let start = self.offset(address, data.len())?;
+    pub(crate) fn write_plain(
+        &mut self,
+        memory: &mut [u8],
+        start: usize,
+        data: &[u8],
+    ) -> Option<()> {
+        let address = self.base.wrapping_add(start as u32);
         let stretch = memory.get_mut(start..start + data.len())?;
         stretch.copy_from_slice(data);
         for entry in self.entries.iter_mut().filter(|entry| entry.used) {

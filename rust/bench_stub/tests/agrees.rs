@@ -4,7 +4,26 @@
 use bench_stub::{Element, Entry, Refusal, Replied, Stub, Verdict, BLOCK, MESSAGE};
 use reference::{body_length, write_text, Breakpoint, Draft, NotServed, Session, LONGEST_TEXT};
 use std::collections::BTreeMap;
+use std::ops::Range;
+use steps::table::lacking;
+use steps::tally::Tally;
 use steps::{program, Generator, Rng};
+
+/// Nothing protected, at three places, and stretches at both ends and within.
+const STRETCHES: [Range<u64>; 7] = [
+    4_096..4_096,
+    4_104..4_108,
+    4_096..4_100,
+    4_152..4_160,
+    4_112..4_144,
+    4_128..4_128,
+    4_160..4_160,
+];
+
+/// The independent stub over the worked setup with this stretch.
+fn session(protected: Range<u64>) -> Session {
+    Session::protecting(protected).unwrap()
+}
 
 /// A stub and what is lent to it.
 #[derive(Clone)]
@@ -15,11 +34,12 @@ struct Own {
 }
 
 impl Own {
-    fn worked() -> Self {
+    /// The worked setup with this stretch.
+    fn protecting(protected: Range<u64>) -> Self {
         let (memory, registers) = ((0..64).collect::<Vec<u8>>(), vec![0; 2 * BLOCK]);
         let processes = [(5, 0x8000_1000), (7, 0x8000_2000)];
         let mut stub = Stub::default();
-        assert_eq!(stub.setup(4_096, 64, &processes, &memory, &registers), Ok(()));
+        assert_eq!(stub.setup(4_096, 64, protected, &processes, &memory, &registers), Ok(()));
         Self { stub, memory, registers }
     }
 
@@ -81,6 +101,8 @@ fn view(stub: &Stub) -> Option<reference::Stub> {
         Some(elements.iter().copied().map(element).collect::<Vec<_>>())
     };
     let mut other = reference::Stub { base: stub.base, size: stub.size, ..Default::default() };
+    let (offset, length) = (stub.protected_offset, stub.protected_length);
+    other.protected = reference::Protected { offset, length };
     for one in stub.processes.get(..stub.count)? {
         let &bench_stub::Process { pid, address, state, wanted } = one;
         other.processes.push(reference::Process { pid, address, state, wanted });
@@ -100,10 +122,12 @@ fn view(stub: &Stub) -> Option<reference::Stub> {
 
 #[test]
 fn both_stubs_do_the_same() {
-    for seed in [1, 2, 3, 4] {
-        let mut steps = Vec::new();
-        program::write(seed, 40_000, &mut steps).unwrap();
-        let (mut own, mut other, mut at) = (Own::worked(), Session::worked(), 0);
+    let mut tally = Tally::default();
+    for (seed, protected) in (1..).zip(STRETCHES) {
+        let (mut steps, own) = (Vec::new(), Own::protecting(protected.clone()));
+        let other = session(protected);
+        program::write_over(other.clone(), seed, 40_000, &mut steps, &mut tally).unwrap();
+        let (mut own, mut other, mut at) = (own, other, 0);
         while at < steps.len() {
             let (kind, start) = (steps[at], at + 1);
             at = start + body_length(kind).unwrap();
@@ -113,13 +137,44 @@ fn both_stubs_do_the_same() {
             assert_eq!((&own.memory, &own.registers), (&other.memory, &other.registers));
         }
     }
+    assert_eq!(lacking(&[tally.protection.section()]), Vec::<String>::new());
+}
+
+/// Setups of both: the same numbers and records, whatever is asked for.
+#[test]
+fn both_stubs_take_the_same_setups() {
+    let (mut rng, mut numbers) = (Rng(9), [0; 3]);
+    for _ in 0..100_000 {
+        let base = rng.pick(&[4_096, 4_100, 4_092, 4_098, u32::MAX - 63, u32::MAX - 59]);
+        let size = rng.pick(&[64, 64, 64, 8, 4, 0, 6, 65_540]);
+        let at = |rng: &mut Rng| {
+            let edges = [u64::from(base), u64::from(base) + u64::from(size), 1 << 32, 0];
+            let by = 4 * u64::from(rng.below(5)) + u64::from(rng.chance(6));
+            let edge = rng.pick(&edges);
+            rng.pick(&[edge + by, edge.wrapping_sub(by), edge])
+        };
+        let protected = Range { start: at(&mut rng), end: at(&mut rng) };
+        let processes = [(5, 1), (rng.pick(&[0, 5, 7, 7, 7, 7, 7]), 2)];
+        let (memory, registers) = (vec![0; 64], vec![0; 2 * BLOCK]);
+        let (mut own, mut other) =
+            (Own::protecting(4_096..4_100).stub, Session::protecting(4_096..4_100).unwrap().stub);
+        let ours = own.setup(base, size, protected.clone(), &processes, &memory, &registers);
+        let theirs = other.setup(base, size, protected, &processes, &memory, &registers);
+        let number = theirs.map_or_else(|refusal| refusal.number(), |()| 0);
+        assert_eq!(ours.map_or_else(Refusal::number, |()| 0), number);
+        assert_eq!(view(&own).as_ref(), Some(&other));
+        numbers[usize::from(number)] += 1;
+    }
+    assert!(numbers.iter().all(|&count| count > 500), "{numbers:?}");
 }
 
 #[test]
 fn both_stubs_serve_texts_the_same() {
     let (mut steps, mut generator, mut answers) = (Vec::new(), Generator::new(6), BTreeMap::new());
-    program::write(6, 40_000, &mut steps).unwrap();
-    let (mut own, mut other, mut at) = (Own::worked(), Session::worked(), 0);
+    let protected = 4_112..4_120;
+    let (mut own, mut other, mut at) = (Own::protecting(protected.clone()), session(protected), 0);
+    let mut tally = Tally::default();
+    program::write_over(other.clone(), 6, 40_000, &mut steps, &mut tally).unwrap();
     while at < steps.len() {
         let (kind, start) = (steps[at], at + 1);
         at = start + body_length(kind).unwrap();
@@ -147,15 +202,16 @@ fn both_stubs_serve_texts_the_same() {
         let errno = theirs.map(|served| served.done.map_err(|errno| errno.number()).err());
         *answers.entry(errno.map_err(NotServed::number)).or_insert(0) += 1;
     }
-    // Served, four errors, no packet and too short a buffer.
-    assert!(answers.len() == 7 && answers.values().all(|&count| count > 100), "{answers:?}");
+    // Served, five errors, no packet and too short a buffer.
+    assert!(answers.len() == 8 && answers.values().all(|&count| count > 100), "{answers:?}");
 }
 
 /// Changes something of a record.
 fn spoil(rng: &mut Rng, stub: &mut Stub) {
     let (i, j) = (rng.index(8), rng.index(8));
     let counts = [0, 1, 2, 63, 64, 65, 128, 255, rng.byte()];
-    match rng.below(14) {
+    let (any, word) = (rng.word(), 4 * rng.below(18));
+    match rng.below(17) {
         0 => stub.entries[i].used ^= true,
         1 => stub.entries[i].count = rng.pick(&counts),
         2 => stub.entries[i].id = stub.entries[j].id,
@@ -169,6 +225,12 @@ fn spoil(rng: &mut Rng, stub: &mut Stub) {
         10 => stub.processes[i % 2].wanted ^= true,
         11 => stub.current = Some(rng.below(8)),
         12 => (stub.base, stub.size) = (stub.base ^ 1 << rng.below(32), stub.size),
+        13 => stub.protected_offset = rng.pick(&[word, word, word + 2, any]),
+        14 => stub.protected_length = rng.pick(&[word, word, word + 2, any]),
+        15 => {
+            stub.protected_offset = 4 * rng.below(17);
+            stub.protected_length = rng.pick(&[4, 8, 60, 0u32.wrapping_sub(stub.protected_offset)]);
+        }
         _ => stub.entries.iter_mut().for_each(|entry| entry.count = rng.pick(&counts)),
     }
 }
@@ -178,9 +240,10 @@ fn spoiled_records_are_judged_the_same() {
     let mut rng = Rng(5);
     let mut numbers = [0; 2];
     for seed in 0..60 {
-        let mut steps = Vec::new();
-        program::write(seed, 600, &mut steps).unwrap();
-        let (mut own, mut at) = (Own::worked(), 0);
+        let protected = STRETCHES[seed as usize % STRETCHES.len()].clone();
+        let (mut steps, mut tally) = (Vec::new(), Tally::default());
+        program::write_over(session(protected.clone()), seed, 600, &mut steps, &mut tally).unwrap();
+        let (mut own, mut at) = (Own::protecting(protected), 0);
         while at < steps.len() {
             let (kind, start) = (steps[at], at + 1);
             at = start + body_length(kind).unwrap();

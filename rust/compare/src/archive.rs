@@ -19,5 +19,6 @@ pub type Stub = fn(&Call, &mut Lent<'_>) -> u32;
 pub fn archive(call: &Call, lent: &mut Lent<'_>) -> u32 {
     let Lent { record, memory, registers, input, reply } = lent;
     let (record, &Call { pid, value, .. }) = (record.raw_mut(), call);
-    call::Lent { record, memory, registers, pid, value, input, reply }.call(call.kind)
+    let (from, to) = (call.protected.start, call.protected.end);
+    call::Lent { record, memory, registers, from, to, pid, value, input, reply }.call(call.kind)
 }

@@ -5,6 +5,7 @@ use crate::raw::held;
 use crate::record::Record;
 use reference::{fit, Refusal, Stub, TextServed, Verdict, BLOCK, PROCESSES};
 use sanirvoq::ffi;
+use std::ops::Range;
 
 /// The record that the independent side has.
 pub enum Held {
@@ -55,7 +56,10 @@ impl Held {
         reply: &mut [u8],
     ) -> u32 {
         let done = match (call.kind, &mut *self) {
-            (Kind::Setup, _) => self.setup(memory, registers).map_err(Refusal::number),
+            (Kind::Setup, _) => {
+                let protected = call.protected.clone();
+                self.setup(protected, memory, registers).map_err(Refusal::number)
+            }
             (_, Self::Raw(_)) => Err(self.raw_refusal(call, memory, registers).number()),
             (Kind::Text, Self::Stub(stub)) => {
                 let served = stub.text(memory, registers, &call.input, reply);
@@ -71,8 +75,13 @@ impl Held {
         }
     }
 
-    /// Setup takes its arguments from the record, whatever else that holds.
-    fn setup(&mut self, memory: &[u8], registers: &[u8]) -> Result<[u8; 3], Refusal> {
+    /// Setup takes its arguments but for the stretch from the record, whatever else that holds.
+    fn setup(
+        &mut self,
+        protected: Range<u64>,
+        memory: &[u8],
+        registers: &[u8],
+    ) -> Result<[u8; 3], Refusal> {
         let (base, size, mut processes) = match self {
             Self::Stub(stub) => {
                 let pairs = stub.processes.iter().map(|one| (one.pid, one.address));
@@ -89,7 +98,7 @@ impl Held {
             processes.push((u32::MAX, 0));
         }
         let mut stub = Stub::empty();
-        let done = stub.setup(base, size, &processes, memory, registers);
+        let done = stub.setup(base, size, protected, &processes, memory, registers);
         *self = Self::Stub(Box::new(stub));
         done.map(|()| [0; 3])
     }

@@ -10,7 +10,7 @@ use compare::archive::archive;
 use compare::images;
 use compare::run::Runner;
 use compare::texts::{self, Calls};
-use sanirvoq::call::{image_differences, text_read, text_write};
+use sanirvoq::call::{image_differences, text_decode, text_encode};
 use std::process::ExitCode;
 use std::time::{Duration, Instant};
 
@@ -73,7 +73,7 @@ fn main() -> ExitCode {
             return ExitCode::FAILURE;
         }
     };
-    let calls = Calls { write: text_write, read: text_read };
+    let calls = Calls { write: text_encode, read: text_decode };
     let packets = match texts::run(calls, seed, steps / STEPS_A_TEXT) {
         Ok(packets) => packets,
         Err(failure) => {

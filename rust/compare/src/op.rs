@@ -6,6 +6,7 @@ use crate::record::Record;
 use crate::texts::make::Damage;
 use reference::LONGEST_TEXT;
 use std::fmt;
+use std::ops::Range;
 use steps::Step;
 
 pub use sanirvoq::call::Kind;
@@ -14,6 +15,8 @@ pub use sanirvoq::call::Kind;
 #[derive(Debug, Clone)]
 pub struct Call {
     pub kind: Kind,
+    /// The protected stretch of a setup.
+    pub protected: Range<u64>,
     pub pid: u32,
     pub value: u8,
     pub input: Vec<u8>,
@@ -96,6 +99,9 @@ impl fmt::Display for Origin {
 impl fmt::Display for Call {
     fn fmt(&self, out: &mut fmt::Formatter<'_>) -> fmt::Result {
         write!(out, "{}", self.kind.name())?;
+        if self.kind == Kind::Setup {
+            write!(out, " protected {:#x} to {:#x}", self.protected.start, self.protected.end)?;
+        }
         if matches!(self.kind, Kind::Trap | Kind::Schedule | Kind::State) {
             write!(out, " pid {:08x}", self.pid)?;
         }

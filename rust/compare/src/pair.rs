@@ -12,8 +12,8 @@
 //! - after Rerr, that memory, registers and all of the record but the condition in hand and the
 //!   places that no breakpoint holds are as before; after a text step with ERRFLG -1, that all of the
 //!   record is, the condition in hand and every place too;
-//! - in a session, the claims of the book of demand 3, that the record has what the book has, and
-//!   that it holds as many places as the history says.
+//! - in a session, the claims of the book of demand 3, that no step changed a protected byte among
+//!   them, that the record has what the book has, and that it holds as many places as the history says.
 //!
 //! Windows of many bytes are rare ([`crate::make::setup`]), so comparing all of them each time is
 //! cheap.
@@ -363,11 +363,13 @@ impl Pair {
             self.book = (accepted && call.memory.is_none()).then(|| {
                 let asked = self.record_before.target();
                 let pids = asked.processes.map(|process| process.pid);
-                Book::new(asked.base, &pids[..asked.count as usize], &self.before.memory)
+                let (protected, pids) = (call.protected.clone(), &pids[..asked.count as usize]);
+                Book::new(asked.base, protected, pids, &self.before.memory)
             });
             self.places = Places::new();
         }
         let Some(book) = &mut self.book else { return Ok(()) };
+        book.keeps_protected(&self.before.memory, &self.proved.memory)?;
         if accepted {
             feed(book, call, &self.before.registers, &self.answer)?;
             feed_places(&mut self.places, call, &self.answer);
@@ -407,7 +409,10 @@ mod tests {
     fn step(kind: Kind, pid: u32, input: Vec<u8>) -> Op {
         let reply = if kind == Kind::Text { LONGEST_TEXT } else { kind.reply().unwrap_or(0) };
         let (memory, registers, damage) = (None, None, None);
-        Op::Step(Call { kind, pid, value: 0, input, reply, fill: 0, memory, registers, damage })
+        let (protected, value, fill) = (4_096..4_096, 0, 0);
+        let call =
+            Call { kind, protected, pid, value, input, reply, fill, memory, registers, damage };
+        Op::Step(call)
     }
 
     fn request(kind: u8, number: u32, one: u8) -> Op {
@@ -482,6 +487,25 @@ mod tests {
         for (tell, op, what) in told {
             let mut pair = worked();
             tell(pair.book.as_mut().unwrap());
+            assert_eq!(pair.run(&op).err().unwrap().what, what);
+        }
+    }
+
+    /// So is that no step changes a protected byte: the book protects more than both sides do.
+    #[test]
+    fn the_book_is_asked_for_protected_bytes() {
+        let steps = [
+            (step(Kind::Request, 0, [&[4, 0, 0, 0x10, 0x0c, 1, 0xaa], &[0; 3][..]].concat()), 12),
+            (step(Kind::Text, 0, b"0x0 I 0x100c 0x5".to_vec()), 12),
+            (request(16, 4, b'd'), 8),
+            (step(Kind::Restart, 0, Vec::new()), 8),
+        ];
+        for (op, at) in steps {
+            let mut pair = worked();
+            let (from, memory) = (4_096 + at, &pair.proved.memory);
+            let book = Book::new(4_096, from..from + 4, &[5, 7], memory);
+            pair.book = Some(book);
+            let what = "a step changed a protected byte of memory";
             assert_eq!(pair.run(&op).err().unwrap().what, what);
         }
     }

@@ -2,7 +2,8 @@
 //! stub cannot hold is not fit; what they hold, `reference::fit` judges. Also whether a record
 //! shows what the independent stub has.
 
-use reference::{Breakpoint, Draft, Element, List, Process, Stub, ENTRIES};
+use crate::record::Record;
+use reference::{Breakpoint, Draft, Element, List, Process, Protected, Stub, ENTRIES};
 use sanirvoq::{ffi, Element as Place};
 
 /// The record in the independent stub's types. None where a flag is neither 0 nor 1, there are more
@@ -24,7 +25,13 @@ pub fn held(record: &ffi::Record) -> Option<Stub> {
     };
     let current = flag(target.selected)?.then_some(target.current);
     let processes = processes(target)?;
-    Some(Stub { base: target.base, size: target.size, processes, table, draft, current })
+    let (base, size, protected) = (target.base, target.size, protected(target));
+    Some(Stub { base, size, protected, processes, table, draft, current })
+}
+
+/// Any two numbers are held.
+fn protected(target: &ffi::Target) -> Protected {
+    Protected { offset: target.protected_offset, length: target.protected_length }
 }
 
 fn flag(byte: u8) -> Option<bool> {
@@ -60,6 +67,7 @@ fn elements(places: Option<impl Iterator<Item = Place>>) -> Option<Vec<Element>>
 pub fn shows(record: &ffi::Record, stub: &Stub) -> bool {
     let target = &record.target;
     (target.base, target.size) == (stub.base, stub.size)
+        && protected(target) == stub.protected
         && shows_processes(target, stub)
         && target.selected == u8::from(stub.current.is_some())
         && stub.current.is_none_or(|pid| target.current == pid)
@@ -92,6 +100,38 @@ fn shows_draft(record: &ffi::Record, stub: Option<&Draft>) -> bool {
 
 fn shows_elements(places: Option<impl Iterator<Item = Place>>, elements: &[Element]) -> bool {
     places.is_some_and(|places| places.eq(elements.iter().map(|&one| sent(one))))
+}
+
+/// A record that shows just what the independent stub has, and zeros elsewhere.
+pub fn written(stub: &Stub) -> Record {
+    let mut made = Record::zeroed();
+    let ffi::Record { target, places } = made.raw_mut();
+    (target.base, target.size, target.count) = (stub.base, stub.size, stub.processes.len() as u32);
+    let Protected { offset, length } = stub.protected;
+    (target.protected_offset, target.protected_length) = (offset, length);
+    for (slot, process) in target.processes.iter_mut().zip(stub.processes.iter()) {
+        let &Process { pid, address, state, wanted } = process;
+        *slot = ffi::Process { pid, address, state, wanted: wanted.into() };
+    }
+    (target.selected, target.current) = (stub.current.is_some().into(), stub.current.unwrap_or(0));
+    let mut places = places.chunks_exact_mut(2);
+    let mut put = |elements: &[Element]| {
+        for (element, place) in elements.iter().zip(places.by_ref()) {
+            let Place { letter, value } = sent(*element);
+            place.copy_from_slice(&[letter, value]);
+        }
+        elements.len() as u8
+    };
+    for (entry, point) in target.table.entries.iter_mut().zip(&stub.table) {
+        if let Some(Breakpoint { id, site, plain, elements }) = point {
+            let plain = [plain[0], plain[1], 0, 0];
+            *entry = ffi::Entry { used: 1, id: *id, count: put(elements), plain, site: *site };
+        }
+    }
+    if let Some(Draft { id, elements }) = &stub.draft {
+        target.table.draft = ffi::Draft { active: 1, id: *id, count: put(elements) };
+    }
+    made
 }
 
 /// The letter and the value of an element.

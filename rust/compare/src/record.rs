@@ -1,34 +1,31 @@
 //! The record as bytes of which any may be anything, and as the fields that they are.
 
-#![allow(unsafe_code)]
-
 use sanirvoq::ffi::{self, Table, Target};
+use sanirvoq::{RecordWords, WORDS};
 use std::mem::offset_of;
+use std::ops::Range;
 use std::sync::LazyLock;
 
-const WORDS: usize = size_of::<ffi::Record>() / 4;
 /// The condition in hand is the last part before the places.
 const BEFORE_DRAFT: usize = (offset_of!(Target, table) + offset_of!(Table, draft)) / 4;
 const BEFORE_PLACES: usize = offset_of!(ffi::Record, places) / 4;
 
 /// Words, so that padding too has a value that can be set, kept and compared.
 #[derive(Debug, Clone, PartialEq, Eq)]
-pub struct Record([u32; WORDS]);
+pub struct Record(RecordWords);
 
 impl Record {
     pub fn zeroed() -> Self {
-        Self([0; WORDS])
+        Self(RecordWords([0; WORDS]))
     }
 
     /// The record as the archive has it.
     pub fn raw(&self) -> &ffi::Record {
-        // SAFETY: size and alignment are those of the words; every value of its fields is one.
-        unsafe { &*self.0.as_ptr().cast() }
+        self.0.record()
     }
 
     pub fn raw_mut(&mut self) -> &mut ffi::Record {
-        // SAFETY: as above, and a field can be given no value that the words have not.
-        unsafe { &mut *self.0.as_mut_ptr().cast() }
+        self.0.record_mut()
     }
 
     /// All of it but the places.
@@ -41,18 +38,24 @@ impl Record {
     }
 
     pub fn bytes(&self) -> &[u8] {
-        // SAFETY: the words are initialised, and bytes have no alignment.
-        unsafe { std::slice::from_raw_parts(self.0.as_ptr().cast(), 4 * WORDS) }
+        self.0.bytes()
     }
 
     pub fn bytes_mut(&mut self) -> &mut [u8] {
-        // SAFETY: as above; every byte is a part of some word.
-        unsafe { std::slice::from_raw_parts_mut(self.0.as_mut_ptr().cast(), 4 * WORDS) }
+        self.0.bytes_mut()
+    }
+
+    fn words(&mut self) -> impl Iterator<Item = &mut u32> {
+        self.0 .0.iter_mut()
+    }
+
+    fn part(&self, part: &Range<usize>) -> &[u32] {
+        &self.0 .0[part.clone()]
     }
 
     /// Takes over another's padding, and nothing else.
     pub fn pad(&mut self, noise: &Self) {
-        for ((word, noise), mask) in self.0.iter_mut().zip(&noise.0).zip(&MASK.0) {
+        for ((word, noise), mask) in self.words().zip(&noise.0 .0).zip(&MASK.0 .0) {
             *word = (*word & mask) | (noise & !mask);
         }
     }
@@ -60,7 +63,7 @@ impl Record {
     /// Gives padding a value. An accepted step may leave it with bytes that were never written, which
     /// valgrind would hold against a comparison of all bytes.
     pub fn define_padding(&mut self) {
-        for (word, mask) in self.0.iter_mut().zip(&MASK.0) {
+        for (word, mask) in self.words().zip(&MASK.0 .0) {
             *word = (*word & mask) | (0x5a5a_5a5a & !mask);
         }
     }
@@ -71,9 +74,7 @@ impl Record {
     pub fn same_but_draft(&self, before: &Self) -> bool {
         let planted = 2 * before.raw().first_place(ffi::ENTRIES).min(ffi::PLACES);
         let parts = [0..BEFORE_DRAFT, BEFORE_PLACES..BEFORE_PLACES + planted];
-        parts
-            .into_iter()
-            .all(|part| same(&self.0[part.clone()], &before.0[part.clone()], &MASK.0[part]))
+        parts.into_iter().all(|part| same(self.part(&part), before.part(&part), MASK.part(&part)))
     }
 }
 
@@ -88,6 +89,7 @@ static MASK: LazyLock<Record> = LazyLock::new(|| {
     let mut mask = Record::zeroed();
     let ffi::Record { target, places } = mask.raw_mut();
     (target.base, target.size, target.count) = (!0, !0, !0);
+    (target.protected_offset, target.protected_length) = (!0, !0);
     for process in &mut target.processes {
         (process.pid, process.address) = (!0, !0);
         (process.state, process.wanted) = (!0, !0);
@@ -111,7 +113,7 @@ mod tests {
     /// after the condition in hand.
     #[test]
     fn the_mask_leaves_out_padding_alone() {
-        let ones: u32 = MASK.0.iter().map(|word| word.count_ones()).sum();
+        let ones: u32 = MASK.0 .0.iter().map(|word| word.count_ones()).sum();
         assert_eq!(ones as usize, 8 * (size_of::<ffi::Record>() - 8 - 2 * 4 - 3 - 1));
     }
 

@@ -6,6 +6,7 @@ use crate::op::{Call, Kind, Op, Origin};
 use crate::pair::{Pair, Seen};
 use crate::text_steps::TextSteps;
 use reference::{read_text, BLOCK, PC};
+use std::ops::Range;
 use steps::places::Held;
 use steps::table::{lacking, must, table, texts, Cell, Section};
 use steps::tally::{letter_index, letters_but, word};
@@ -13,6 +14,22 @@ use steps::tally::{letter_index, letters_but, word};
 const BUFFERS: [&str; 5] = ["memory", "registers", "request", "reply", "block"];
 const WINDOWS: [(&str, u32); 5] =
     [("4", 4), ("to 64", 64), ("to 4,096", 4_096), ("to 65,532", 65_532), ("65,536", 65_536)];
+/// A stretch of an accepted setup: what is said of it, and whether it is so of B, from, to and B + M.
+type Named = (&'static str, fn([u64; 4]) -> bool);
+const STRETCHES: [Named; 12] = [
+    ("empty, at B", |[base, from, to, _]| from == to && from == base),
+    ("empty, within", |[base, from, to, end]| from == to && base < from && to < end),
+    ("empty, at B + M", |[_, from, to, end]| from == to && to == end),
+    ("empty, at 2^32", |[_, from, to, _]| from == to && to == 1 << 32),
+    ("a word, at B", |[base, from, to, end]| from == base && to == from + 4 && to < end),
+    ("a word, within", |[base, from, to, end]| base < from && to == from + 4 && to < end),
+    ("a word, up to B + M", |[base, from, to, end]| base < from && to == from + 4 && to == end),
+    ("a word, up to 2^32", |[_, from, to, _]| to == from + 4 && to == 1 << 32),
+    ("more, at B", |[base, from, to, end]| from == base && to > from + 4 && to < end),
+    ("more, within", |[base, from, to, end]| base < from && to > from + 4 && to < end),
+    ("more, up to B + M", |[base, from, to, end]| base < from && to > from + 4 && to == end),
+    ("the whole window", |[base, from, to, end]| from == base && to == end),
+];
 /// The numbers that each kind can have.
 const NUMBERS: [&[usize]; 6] =
     [&[0, 1, 2], &[0, 2, 3], &[0, 2, 3, 4, 5, 6], &[0, 2, 3, 4], &[0, 2, 3, 4, 5], &[0, 2, 3]];
@@ -32,6 +49,7 @@ pub struct Tally {
     windows: [u64; WINDOWS.len()],
     processes: [u64; 4],
     at_top: u64,
+    stretches: [u64; STRETCHES.len()],
     outside: u64,
     areas: u64,
     /// The last record's broken rule.
@@ -51,6 +69,7 @@ impl Default for Tally {
             windows: [0; WINDOWS.len()],
             processes: [0; 4],
             at_top: 0,
+            stretches: [0; STRETCHES.len()],
             outside: 0,
             areas: 0,
             rule: None,
@@ -87,7 +106,7 @@ impl Tally {
         match (call.kind, answer.number()) {
             (_, 2) => self.wrong_sizes(call, before, pair),
             (Kind::Text, 0) => self.text(call, pair),
-            (Kind::Setup, 0) => self.session(before, pair),
+            (Kind::Setup, 0) => self.session(call, before, pair),
             (Kind::Setup, _) => self.refused_setup(),
             (_, 0) => self.accepted(call, places, pair),
             _ => {}
@@ -116,13 +135,17 @@ impl Tally {
         }
     }
 
-    fn session(&mut self, (size, count): (u32, u32), pair: &Pair) {
+    fn session(&mut self, call: &Call, (size, count): (u32, u32), pair: &Pair) {
         self.steps.continues.begin();
         let row = WINDOWS.iter().position(|&(_, upto)| size <= upto).unwrap_or(0);
         self.windows[row] += 1;
         self.processes[count as usize - 1] += 1;
         let base = pair.scene().map_or(0, |scene| scene.stub.base);
         self.at_top += u64::from(base.wrapping_add(size) == 0);
+        let (base, Range { start, end }) = (u64::from(base), call.protected.clone());
+        for (count, (_, holds)) in self.stretches.iter_mut().zip(STRETCHES) {
+            *count += u64::from(holds([base, start, end, base + u64::from(size)]));
+        }
     }
 
     fn refused_setup(&mut self) {
@@ -165,7 +188,7 @@ impl Tally {
     // ---- As a table. ----
 
     fn sections(&self) -> Vec<Section> {
-        let sections = self.steps.sections(&NUMBERS);
+        let sections = self.steps.sections(&NUMBERS, true);
         let [mut by_number, by_type, by_answer, mut by_pc, mut by_letter, refused, held, by_elements] =
             sections;
         by_number.row("outside change", must(&[self.outside]));
@@ -176,8 +199,10 @@ impl Tally {
         by_letter.row("* outside the window", must(&[self.read_outside]));
         let mut sections =
             vec![by_number, by_type, by_answer, by_pc, by_letter, refused, held, by_elements];
+        sections.push(self.steps.protection.section());
         sections.extend(self.texts.sections());
-        sections.extend([self.by_window(), self.by_rule(), self.by_size(), self.by_sort()]);
+        sections.extend([self.by_window(), self.by_stretch()]);
+        sections.extend([self.by_rule(), self.by_size(), self.by_sort()]);
         sections
     }
 
@@ -193,6 +218,12 @@ impl Tally {
             ("B + M is 2^32".to_string(), must(&[self.at_top])),
         ];
         Section { title: "accepted setups", columns, rows }
+    }
+
+    fn by_stretch(&self) -> Section {
+        let rows = STRETCHES.iter().zip(self.stretches);
+        let rows = rows.map(|((name, _), count)| (name.to_string(), must(&[count]))).collect();
+        Section { title: "accepted setups, by the protected stretch", columns: Vec::new(), rows }
     }
 
     fn by_rule(&self) -> Section {

@@ -1,21 +1,24 @@
 //! What the text steps of a run reached: numbers by buffer and by damage, errno by letter, errors
-//! that have another behind them, words under traps and at the window's ends, registers.
+//! that have another behind them, words under traps, at the window's ends and at the protected stretch,
+//! registers.
 
 use crate::op::Call;
 use crate::texts::make::{Damage, Room};
-use reference::{read_text, Stub, TextPacket, BLOCK, STOPPED};
+use reference::{read_text, Protected, Stub, TextPacket, BLOCK, STOPPED};
 use steps::table::{must, texts, Cell, Section};
 
 /// The numbers that a text step can have, in the order of its tests, then 0.
 const NUMBERS: [u8; 5] = [2, 3, 11, 10, 0];
 /// What a step of number 0 can say, after the column of those that were carried out.
-const ERRNOS: [u32; 4] = [3, 14, 16, 22];
+const ERRNOS: [u32; 5] = [3, 13, 14, 16, 22];
+/// The column of errno 22.
+const EINVAL: usize = ERRNOS.len();
 /// The letters that have a row of their own, with the errnos that each can get.
 const LETTERS: [(u8, &[u32]); 8] = [
     (b'i', &[3, 14, 22]),
     (b'd', &[3, 14, 22]),
-    (b'I', &[3, 14, 22]),
-    (b'D', &[3, 14, 22]),
+    (b'I', &[3, 13, 14, 22]),
+    (b'D', &[3, 13, 14, 22]),
     (b'r', &[3, 16, 22]),
     (b'R', &[3, 16, 22]),
     (b'c', &[22]),
@@ -33,11 +36,14 @@ pub struct TextSteps {
     /// Steps of number 2, 3 and 11 whose text is no packet.
     behind: Row<3>,
     /// By letter, the last row all other letters: carried out, then by errno.
-    letters: [Row<5>; LETTERS.len() + 1],
-    in_hand: Row<5>,
+    letters: [Row<6>; LETTERS.len() + 1],
+    in_hand: Row<6>,
     situations: [u64; SITUATIONS.len()],
     /// Words read and written: across 0, 1 and 2 traps, the window's first and its last.
     words: [Row<5>; 2],
+    /// Words of number 0 that are aligned, by where they lie to the stretch: read and done, written and
+    /// done, written and refused with errno 13.
+    stretches: [Row<3>; STRETCHES.len()],
     /// `r` and `R` of number 0, 1 to 31, 32, 33, 34 and over 34, carried out and with errno 22.
     registers: [[Row<6>; 2]; 2],
 }
@@ -51,8 +57,25 @@ struct Situation<'a> {
 /// What is said of a situation, and whether it is so.
 type Named = (&'static str, fn(&Situation<'_>) -> bool);
 
+/// Where a word lies to the protected stretch, and whether it may be written there.
+const STRETCHES: [(Named, bool); 8] = [
+    (("the last before it", |met| met.protects() && met.behind() == met.from()), true),
+    (("its first", |met| met.is_protected() && met.is_at(met.from())), false),
+    (
+        ("within it", |met| {
+            met.is_protected() && !met.is_at(met.from()) && met.behind() < met.to()
+        }),
+        false,
+    ),
+    (("its last", |met| met.is_protected() && met.behind() == met.to()), false),
+    (("all of it", |met| met.is_at(met.from()) && met.behind() == met.to()), false),
+    (("the first behind it", |met| met.protects() && met.is_at(met.to())), true),
+    (("before an empty one", |met| !met.protects() && met.behind() == met.from()), true),
+    (("behind an empty one", |met| !met.protects() && met.is_at(met.from())), true),
+];
+
 /// Mostly two faults of one request, of which the first decides.
-const SITUATIONS: [Named; 19] = [
+const SITUATIONS: [Named; 22] = [
     ("letter not served, PID not 0", |met| !met.is_served() && met.packet.pid != 0),
     ("word: PID not 0, unaligned", |met| met.is_word() && met.pid() && !met.is_aligned()),
     ("word: PID not 0, outside", |met| met.is_word() && met.pid() && !met.is_inside()),
@@ -63,6 +86,15 @@ const SITUATIONS: [Named; 19] = [
     ("word: a register's offset", |met| met.word() && met.is_aligned() && met.below(BLOCK)),
     ("word: a register's offset, Stopped", |met| {
         met.word() && met.is_aligned() && met.below(BLOCK) && met.stopped()
+    }),
+    ("word: PID not 0, written, protected", |met| {
+        met.is_written() && met.pid() && met.is_protected()
+    }),
+    ("word: unaligned, written, protected", |met| {
+        met.word() && met.is_written() && !met.is_aligned() && met.is_protected()
+    }),
+    ("word: outside beside the stretch, written", |met| {
+        met.word() && met.is_written() && met.protects() && !met.is_inside() && met.is_beside()
     }),
     ("register: PID not 0, no such number", |met| met.is_register() && met.pid() && met.none()),
     ("register: PID not 0, none current", |met| met.is_register() && met.pid() && met.idle()),
@@ -127,6 +159,37 @@ impl Situation<'_> {
     fn is_inside(&self) -> bool {
         let address = u64::from(self.packet.third);
         self.base() <= address && address + 4 <= self.end()
+    }
+
+    fn from(&self) -> u64 {
+        self.base() + u64::from(self.stub.protected.offset)
+    }
+
+    fn to(&self) -> u64 {
+        self.from() + u64::from(self.stub.protected.length)
+    }
+
+    /// Whether anything is protected.
+    fn protects(&self) -> bool {
+        matches!(self.stub.protected, Protected { length: 1.., .. })
+    }
+
+    /// Whether a byte of the word is.
+    fn is_protected(&self) -> bool {
+        self.stub.protects(self.packet.third, 4)
+    }
+
+    /// The first address behind the word.
+    fn behind(&self) -> u64 {
+        u64::from(self.packet.third) + 4
+    }
+
+    fn is_beside(&self) -> bool {
+        self.behind() == self.from() || self.is_at(self.to())
+    }
+
+    fn is_written(&self) -> bool {
+        b"ID".contains(&self.packet.letter)
     }
 
     /// No register has the number.
@@ -198,24 +261,32 @@ impl TextSteps {
             counts[3] += u64::from(met.is_at(met.base()));
             counts[4] += u64::from(met.is_at(met.end() - 4));
         }
-        if met.register() && matches!(column, 0 | 4) {
+        if met.word() && met.is_aligned() && met.is_inside() {
+            let refused = errno.map(|place| ERRNOS[place]) == Some(13);
+            let place = if refused { 2 } else { writes };
+            for (counts, ((_, holds), _)) in self.stretches.iter_mut().zip(STRETCHES) {
+                counts[place] += u64::from(holds(met));
+            }
+        }
+        if met.register() && matches!(column, 0 | EINVAL) {
             let place = match met.packet.third {
                 0 => 0,
                 1..=31 => 1,
                 number => (number - 30).min(5) as usize,
             };
-            self.registers[writes][usize::from(column == 4)][place] += 1;
+            self.registers[writes][usize::from(column == EINVAL)][place] += 1;
         }
     }
 
     // ---- As a table. ----
 
-    pub fn sections(&self) -> [Section; 5] {
+    pub fn sections(&self) -> [Section; 6] {
         [
             self.by_number(),
             self.by_letter(),
             self.by_situation(),
             self.by_word(),
+            self.by_stretch(),
             self.by_register(),
         ]
     }
@@ -248,7 +319,7 @@ impl TextSteps {
             texts(["done"]).into_iter().chain(ERRNOS.map(|errno| format!("errno {errno}")));
         let title = "text steps of number 0, by letter";
         let mut section = Section { title, columns: columns.collect(), rows: Vec::new() };
-        let cells = |counts: &Row<5>, served: bool, errnos: &[u32]| -> Vec<Cell> {
+        let cells = |counts: &Row<6>, served: bool, errnos: &[u32]| -> Vec<Cell> {
             let done = Cell::where_possible(served, counts[0]);
             let pairs = ERRNOS.iter().zip(&counts[1..]);
             let errors = pairs.map(|(one, &n)| Cell::where_possible(errnos.contains(one), n));
@@ -273,6 +344,20 @@ impl TextSteps {
         let [read, written] = &self.words;
         let rows = vec![("read".into(), must(read)), ("written".into(), must(written))];
         Section { title: "words of text steps, across traps", columns, rows }
+    }
+
+    fn by_stretch(&self) -> Section {
+        let title = "words of text steps, by the protected stretch";
+        let columns = texts(["read", "written", "errno 13"]);
+        let mut section = Section { title, columns, rows: Vec::new() };
+        for (((name, _), writable), [read, written, refused]) in
+            STRETCHES.iter().zip(self.stretches)
+        {
+            let cell = |must, n| if must { Cell::Must(n) } else { Cell::Never(n) };
+            let cells = vec![Cell::Must(read), cell(*writable, written), cell(!writable, refused)];
+            section.row(name, cells);
+        }
+        section
     }
 
     fn by_register(&self) -> Section {

@@ -6,7 +6,7 @@ use compare::make::sorts::SORTS;
 use compare::make::Maker;
 use compare::op::{Op, Origin};
 use compare::pair::Pair;
-use compare::raw::{held, shows};
+use compare::raw::{held, shows, written};
 use compare::record::Record;
 
 /// A session that has come to something: its record, as the archive left it, and its buffers.
@@ -88,4 +88,15 @@ fn sizes_come_first() {
     assert_eq!((number(&record, 4, 136), number(&record, 3, 136)), (0, 2));
     record.target_mut().selected = 2;
     assert_eq!((number(&record, 4, 136), number(&record, 3, 136)), (3, 2));
+}
+
+/// What is written for a stub is held as that stub again.
+#[test]
+fn a_record_is_written_for_what_is_held() {
+    sessions(3, &mut |pair, _| {
+        let stub = pair.scene().unwrap().stub;
+        let record = written(stub);
+        assert_eq!(held(record.raw()).as_ref(), Some(stub));
+        assert!(shows(record.raw(), stub));
+    });
 }

@@ -10,7 +10,8 @@ fn step(kind: Kind, input: &[u8]) -> Op {
     let reply = kind.reply().unwrap_or(0);
     let input = input.to_vec();
     let (memory, registers, damage) = (None, None, None);
-    Op::Step(Call { kind, pid: 5, value: 3, input, reply, fill: 0, memory, registers, damage })
+    let (protected, pid, value, fill) = (4_096..4_096, 5, 3, 0);
+    Op::Step(Call { kind, protected, pid, value, input, reply, fill, memory, registers, damage })
 }
 
 fn request(kind: u8, number: u32, one: u8) -> Op {

@@ -1,11 +1,11 @@
 //! Text packets: the archive agrees, a seed gives one run, and a call with a fault is found.
 
 use compare::texts::{run, Calls};
-use sanirvoq::call::{text_read, text_write};
+use sanirvoq::call::{text_decode, text_encode};
 use sanirvoq::ffi::{TextFound, TextPacket};
 
 const CASES: u64 = 20_000;
-const ARCHIVE: Calls = Calls { write: text_write, read: text_read };
+const ARCHIVE: Calls = Calls { write: text_encode, read: text_decode };
 
 /// What the run says of calls, if anything.
 fn found(calls: Calls) -> Option<&'static str> {
@@ -18,7 +18,7 @@ macro_rules! writing {
         Calls {
             write: |$packet, $buffer| {
                 #[allow(unused_mut)]
-                let mut $done = text_write($packet, $buffer);
+                let mut $done = text_encode($packet, $buffer);
                 $fault;
                 $done
             },
@@ -35,7 +35,7 @@ macro_rules! reading {
                 #[allow(unused_mut)]
                 let mut $text = bytes.to_vec();
                 $other;
-                text_read(&$text)
+                text_decode(&$text)
             },
             ..ARCHIVE
         }
@@ -121,7 +121,7 @@ fn buffers() {
         // Third and fourth change places.
         Calls {
             write: |p, buffer| {
-                text_write(TextPacket { third: p.fourth, fourth: p.third, ..p }, buffer)
+                text_encode(TextPacket { third: p.fourth, fourth: p.third, ..p }, buffer)
             },
             ..ARCHIVE
         },
@@ -143,7 +143,7 @@ fn counts_and_packets() {
     assert_eq!(found(one_more), Some("the count of bytes differs"));
     let refused_with_fields = Calls {
         read: |bytes| {
-            let found = text_read(bytes);
+            let found = text_decode(bytes);
             let packet = TextPacket { letter: b'i', ..found.packet };
             if found.number == 10 {
                 TextFound { packet, ..found }

@@ -3,6 +3,7 @@
 //! is not 0 changes nothing, so it is not fed; Rerr and ERRFLG -1 are seen here.
 
 use crate::{read_text, word, Verdict, BLOCK, MESSAGE, PC, TRAP};
+use std::ops::Range;
 
 /// What is claimed of an answer or of memory; the text says what is broken.
 pub type Claim = Result<(), &'static str>;
@@ -24,6 +25,8 @@ pub struct Planted {
 #[derive(Debug, Clone, PartialEq, Eq)]
 pub struct Book {
     base: u32,
+    /// The addresses that no step may change.
+    protected: Range<u64>,
     /// In setup order, which is that of the register blocks.
     pids: Vec<u32>,
     plain: Vec<u8>,
@@ -45,9 +48,10 @@ pub struct Evaluation<'a> {
 
 impl Book {
     /// An accepted setup: plain memory is the memory lent.
-    pub fn new(base: u32, pids: &[u32], memory: &[u8]) -> Self {
+    pub fn new(base: u32, protected: Range<u64>, pids: &[u32], memory: &[u8]) -> Self {
         let (pids, plain) = (pids.to_vec(), memory.to_vec());
-        Self { base, pids, plain, draft: None, planted: Vec::new(), stopped: Vec::new() }
+        let (planted, stopped) = (Vec::new(), Vec::new());
+        Self { base, protected, pids, plain, draft: None, planted, stopped }
     }
 
     /// It may be one that the stub has dropped; nothing joins it before a new `n`.
@@ -86,6 +90,18 @@ impl Book {
             Ok(())
         } else {
             Err("memory is not plain memory with the traps laid over it")
+        }
+    }
+
+    /// No step, of whatever number and answer, changes a protected byte of real memory. Outside
+    /// changes are no steps.
+    pub fn keeps_protected(&self, before: &[u8], after: &[u8]) -> Claim {
+        let Range { start, end } = self.protected;
+        let [from, to] = [start, end].map(|address| (address - u64::from(self.base)) as usize);
+        if before.get(from..to) == after.get(from..to) {
+            Ok(())
+        } else {
+            Err("a step changed a protected byte of memory")
         }
     }
 

@@ -1,6 +1,7 @@
 //! An independent reference of the debug stub that document 01 describes, with requests Two (a
-//! breakpoint survives a continue), Three (the text dialect) and Seven (all elements share 128 places)
-//! of 02, and of the calls that document 02 adds.
+//! breakpoint survives a continue), Three (the text dialect), Five (a protected stretch) and Seven (all
+//! elements share 128 places) of 02, and of the calls that document 02 adds: image differences (One),
+//! text packets, frames (Nine) and patches (Twelve).
 //!
 //! It is written from the papers alone and shares nothing with the product. The stub lives in a
 //! [`Stub`]; memory and the register area are lent to every step. A step is refused by a
@@ -17,6 +18,7 @@ pub mod frame;
 mod image;
 mod list;
 mod message;
+pub mod patch;
 mod places;
 mod program;
 mod record;
@@ -33,7 +35,7 @@ pub use list::List;
 pub use message::{read, state_text, write, Message, Reason};
 pub use places::Places;
 pub use program::{body_length, Output, Session};
-pub use record::{fit, Breakpoint, Draft, Process, Refusal, Stub};
+pub use record::{fit, Breakpoint, Draft, Process, Protected, Refusal, Stub};
 pub use text::{read_text, write_text, NotText, TextPacket, LONGEST_TEXT};
 pub use text_step::{Errno, NotServed, TextServed};
 

@@ -4,6 +4,7 @@ use crate::event::Verdict;
 use crate::list::List;
 use crate::record::{Refusal, Stub};
 use crate::{word, BLOCK, MESSAGE};
+use std::ops::Range;
 
 /// What one step writes: its number, then at most ten bytes of reply, 02 and two plain bytes.
 pub type Output = List<u8, 14>;
@@ -28,16 +29,20 @@ pub struct Session {
 }
 
 impl Session {
-    /// The worked setup: 64 bytes at 4,096, the byte at B + i is i, processes 5 and 7, and a
-    /// register area of zeros.
+    /// The worked setup: 64 bytes at 4,096, the byte at B + i is i, nothing protected, processes 5
+    /// and 7, and a register area of zeros.
     pub fn worked() -> Self {
+        Self::protecting(4_096..4_096).expect("the worked setup")
+    }
+
+    /// The same with another stretch protected.
+    pub fn protecting(protected: Range<u64>) -> Result<Self, Refusal> {
         let mut stub = Stub::empty();
         let memory: Vec<u8> = (0..64).collect();
         let registers = vec![0; 2 * BLOCK];
         let processes = [(5, 0x8000_1000), (7, 0x8000_2000)];
-        let accepted = stub.setup(4_096, 64, &processes, &memory, &registers);
-        debug_assert_eq!(accepted, Ok(()));
-        Self { stub, memory, registers }
+        stub.setup(4_096, 64, protected, &processes, &memory, &registers)?;
+        Ok(Self { stub, memory, registers })
     }
 
     /// Runs one whole step. A step whose number is not 0 writes its number only; a kind that is

@@ -3,6 +3,7 @@
 use crate::condition::{depth, Element};
 use crate::list::List;
 use crate::{BLOCK, ELEMENTS, ENTRIES, PLACES, PROCESSES, READY, STOPPED, TRAP};
+use std::ops::Range;
 
 /// Why a step was refused; the numbers are those of 01's table.
 #[derive(Debug, Clone, Copy, PartialEq, Eq)]
@@ -55,12 +56,22 @@ pub struct Draft {
     pub elements: Vec<Element>,
 }
 
+/// The protected stretch, as the record has it.
+#[derive(Debug, Clone, Copy, Default, PartialEq, Eq)]
+pub struct Protected {
+    /// Where it begins: bytes from B on.
+    pub offset: u32,
+    /// How many bytes it has.
+    pub length: u32,
+}
+
 #[derive(Debug, Clone, Default, PartialEq, Eq)]
 pub struct Stub {
     /// B, the address of the window.
     pub base: u32,
     /// M, the bytes of the window.
     pub size: u32,
+    pub protected: Protected,
     pub processes: List<Process, PROCESSES>,
     pub table: [Option<Breakpoint>; ENTRIES],
     pub draft: Option<Draft>,
@@ -69,17 +80,18 @@ pub struct Stub {
 }
 
 impl Stub {
-    /// The empty record: no process, B and M 0, table fresh, none current.
+    /// The empty record: no process, B and M 0, nothing protected, table fresh, none current.
     pub fn empty() -> Self {
         Self::default()
     }
 
-    /// Makes the record for a window and for processes, each a pid and a Proc address.
-    /// Rule 1 comes before rule 2; either leaves the record empty.
+    /// Makes the record for a window, the stretch of it that is protected, and processes, each a pid
+    /// and a Proc address. Rule 1 comes before rule 2; either leaves the record empty.
     pub fn setup(
         &mut self,
         base: u32,
         size: u32,
+        protected: Range<u64>,
         processes: &[(u32, u32)],
         memory: &[u8],
         registers: &[u8],
@@ -94,7 +106,8 @@ impl Stub {
         if !window_fits(base, size) || !pids_fit(&list) {
             return Err(Refusal::Setup);
         }
-        let made = Self { base, size, processes: list, ..Self::empty() };
+        let protected = stretch(base, size, protected).ok_or(Refusal::Setup)?;
+        let made = Self { base, size, protected, processes: list, ..Self::empty() };
         made.lent(memory, registers)?;
         *self = made;
         Ok(())
@@ -160,6 +173,24 @@ fn window_fits(base: u32, size: u32) -> bool {
     size_fits && base.is_multiple_of(4) && base >= 4_096 && end <= 1 << 32
 }
 
+/// The stretch of a setup as the record has it: from and to are multiples of 4, and B, from, to,
+/// B + M never fall.
+fn stretch(base: u32, size: u32, Range { start, end }: Range<u64>) -> Option<Protected> {
+    let rising = [u64::from(base), start, end, u64::from(base) + u64::from(size)].is_sorted();
+    let sound = rising && start.is_multiple_of(4) && end.is_multiple_of(4);
+    let (offset, length) = (start.checked_sub(base.into())?, end.checked_sub(start)?);
+    let (offset, length) = (offset.try_into().ok()?, length.try_into().ok()?);
+    sound.then_some(Protected { offset, length })
+}
+
+/// The same bounds of a record's stretch. B is a multiple of 4 there.
+fn protected_fits(stub: &Stub) -> bool {
+    let Protected { offset, length } = stub.protected;
+    offset.is_multiple_of(4)
+        && length.is_multiple_of(4)
+        && u64::from(offset) + u64::from(length) <= u64::from(stub.size)
+}
+
 /// One to four processes (the list has room for four), pids distinct and at least 1.
 fn pids_fit(processes: &[Process]) -> bool {
     let fits = |(i, process): (usize, &Process)| {
@@ -172,6 +203,7 @@ fn pids_fit(processes: &[Process]) -> bool {
 /// over 255 and a value at `*` or an operator cannot be held.
 pub fn fit(stub: &Stub, memory: &[u8]) -> bool {
     window_fits(stub.base, stub.size)
+        && protected_fits(stub)
         && pids_fit(&stub.processes)
         && stub.processes.iter().all(|process| process.state != STOPPED || !process.wanted)
         && places_fit(stub)
@@ -185,12 +217,14 @@ fn places_fit(stub: &Stub) -> bool {
     stub.conditions().all(|elements| elements.len() <= ELEMENTS) && stub.held() <= PLACES
 }
 
-/// Ids and sites differ; every site holds its trap; every condition is well formed.
+/// Ids and sites differ; every site holds its trap and has no protected byte; every condition is well
+/// formed.
 fn table_fits(stub: &Stub, memory: &[u8]) -> bool {
     stub.table.iter().enumerate().all(|(i, slot)| {
         let Some(entry) = slot else { return true };
         let mut earlier = stub.table[..i].iter().flatten();
         trap_stands(stub, memory, entry.site)
+            && !stub.protects(entry.site, TRAP.len())
             && depth(&entry.elements) == Some(1)
             && earlier.all(|other| other.id != entry.id && other.site != entry.site)
     })

@@ -4,7 +4,7 @@ use crate::condition::{depth, Element};
 use crate::event::exact;
 use crate::message::{Message, Reason};
 use crate::record::{Breakpoint, Draft, Refusal, Stub};
-use crate::{word, BLOCK, ELEMENTS, LAST_ID, MESSAGE, PC, PLACES, READY, STOPPED};
+use crate::{word, BLOCK, ELEMENTS, LAST_ID, MESSAGE, PC, PLACES, READY, STOPPED, TRAP};
 
 type Answer = Result<Message, Reason>;
 
@@ -34,7 +34,7 @@ impl Stub {
         Ok(plain)
     }
 
-    /// The reply, and the plain bytes beside it. unk and unsup look at no other byte.
+    /// The reply, and the plain bytes beside it. unk, and the unsup of a type, look at no other byte.
     fn serve(
         &mut self,
         memory: &mut [u8],
@@ -75,7 +75,8 @@ impl Stub {
         Ok(Message::Rmget(bytes))
     }
 
-    /// Tmput addr[4] n[1] data[4]: data beyond n is unused; register zero is never written.
+    /// Tmput addr[4] n[1] data[4]: data beyond n is unused; register zero and protected bytes are
+    /// never written.
     fn tmput(&mut self, memory: &mut [u8], registers: &mut [u8], data: &[u8]) -> Answer {
         let (address, n) = (word(data), usize::from(data[4]));
         if n > 4 {
@@ -90,6 +91,7 @@ impl Stub {
                     let start = self.stopped_block()? + at;
                     registers[start..start + n].copy_from_slice(bytes);
                 }
+                Place::Window if self.protects(address, n) => return Err(Reason::Unsup),
                 Place::Window => self.write_plain(memory, address, bytes).ok_or(Reason::Inval)?,
             }
         }
@@ -203,12 +205,19 @@ impl Stub {
         Ok(())
     }
 
-    /// b: nothing in hand, odd or outside site, site taken, or depth not 1: inval.
+    /// b: nothing in hand, odd or outside site, or site taken: inval; a protected byte at the site:
+    /// unsup; depth not 1: inval.
     fn set(&mut self, memory: &mut [u8], site: u32) -> Result<(), Reason> {
         // Taken out of hand at once: what is refused here drops it too.
         let Draft { id, elements } = self.draft.take().ok_or(Reason::Inval)?;
-        let free = site.is_multiple_of(2) && self.at_site(site).is_none();
-        if !free || depth(&elements) != Some(1) {
+        let inside = self.offset(site, TRAP.len()).is_some();
+        if !site.is_multiple_of(2) || !inside || self.at_site(site).is_some() {
+            return Err(Reason::Inval);
+        }
+        if self.protects(site, TRAP.len()) {
+            return Err(Reason::Unsup);
+        }
+        if depth(&elements) != Some(1) {
             return Err(Reason::Inval);
         }
         let index = self.free_entry().ok_or(Reason::Inval)?;

@@ -14,13 +14,14 @@ const MINUS_ONE: u32 = 0xffff_ffff;
 #[derive(Debug, Clone, Copy, PartialEq, Eq)]
 pub enum Errno {
     Esrch = 3,
+    Eacces = 13,
     Efault = 14,
     Ebusy = 16,
     Einval = 22,
 }
 
 impl Errno {
-    pub const ALL: [Self; 4] = [Self::Esrch, Self::Efault, Self::Ebusy, Self::Einval];
+    pub const ALL: [Self; 5] = [Self::Esrch, Self::Eacces, Self::Efault, Self::Ebusy, Self::Einval];
 
     pub fn number(self) -> u32 {
         self as u32
@@ -116,7 +117,7 @@ impl Stub {
     }
 
     /// The plain word at an address, low-order first; then data is written there. Alignment comes
-    /// before the window.
+    /// first, then the window, then for data the protected stretch.
     fn text_word(
         &mut self,
         memory: &mut [u8],
@@ -129,6 +130,9 @@ impl Stub {
         let mut bytes = [0; 4];
         self.read_plain(memory, address, &mut bytes).ok_or(Errno::Efault)?;
         if let Some(data) = data {
+            if self.protects(address, bytes.len()) {
+                return Err(Errno::Eacces);
+            }
             self.write_plain(memory, address, &data.to_le_bytes()).ok_or(Errno::Efault)?;
         }
         Ok(u32::from_le_bytes(bytes))

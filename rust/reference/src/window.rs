@@ -1,6 +1,6 @@
 //! The window's plain bytes: what the program has there, whether or not a trap stands on them.
 
-use crate::record::{Breakpoint, Stub};
+use crate::record::{Breakpoint, Protected, Stub};
 use crate::TRAP;
 
 impl Stub {
@@ -9,6 +9,14 @@ impl Stub {
         let start = address.checked_sub(self.base)? as usize;
         let room = (self.size as usize).checked_sub(start)?;
         (n <= room).then_some(start)
+    }
+
+    /// Whether one of `n` bytes at an address is protected. A stretch of no bytes protects none.
+    pub fn protects(&self, address: u32, n: usize) -> bool {
+        let Protected { offset, length } = self.protected;
+        let from = u64::from(self.base) + u64::from(offset);
+        let to = from + u64::from(length);
+        (u64::from(address)..).take(n).any(|byte| (from..to).contains(&byte))
     }
 
     /// Fills `out` with the plain bytes at an address; `None` where they are not all in the window.

@@ -8,7 +8,7 @@ use reference::{Book, Evaluation, Places, Reason, Session, Verdict};
 
 fn worked_book() -> Book {
     let s = Session::worked();
-    Book::new(B, &[5, 7], &s.memory)
+    Book::new(B, B.into()..B.into(), &[5, 7], &s.memory)
 }
 
 /// A book with a breakpoint of id 4 at 4,104 that stops 7 only.

@@ -4,8 +4,8 @@ mod common;
 
 use common::*;
 use reference::{
-    body_length, fit, Breakpoint, Draft, Element, NotServed, Process, Refusal, Session, Stub,
-    ELEMENTS, PLACES,
+    body_length, fit, Breakpoint, Draft, Element, NotServed, Process, Protected, Refusal, Session,
+    Stub, ELEMENTS, PLACES,
 };
 
 /// A number that is often near a bound.
@@ -30,9 +30,19 @@ fn elements(rng: &mut Rng) -> Vec<Element> {
     (0..rng.below(17)).map(|_| element(rng)).collect()
 }
 
+/// A stretch, mostly a sound one of a window of 64 bytes.
+fn stretch(rng: &mut Rng) -> Protected {
+    if rng.below(4) == 0 {
+        return Protected { offset: number(rng), length: number(rng) };
+    }
+    let offset = 4 * rng.below(17) as u32;
+    Protected { offset, length: 4 * rng.below(u64::from(17 - offset / 4)) as u32 }
+}
+
 /// A record of anything that the types can hold.
 fn spoiled(rng: &mut Rng) -> Stub {
     let mut stub = Stub { base: number(rng), size: number(rng) % 70_000, ..Stub::empty() };
+    stub.protected = stretch(rng);
     for _ in 0..rng.below(5) {
         let (pid, state, wanted) = (number(rng), rng.next() as u8 % 10, rng.below(2) == 0);
         stub.processes.push(Process { pid, address: number(rng), state, wanted });
@@ -58,7 +68,7 @@ fn changed(rng: &mut Rng) -> Session {
         ask(&mut s, cond(b'n', 100));
     }
     let slot = rng.below(8) as usize;
-    match (rng.below(11), s.stub.table[slot].as_mut()) {
+    match (rng.below(12), s.stub.table[slot].as_mut()) {
         (0, Some(entry)) => entry.site = number(rng),
         (1, Some(entry)) => entry.id = rng.next() as u8 % 9,
         (2, Some(entry)) => entry.elements = elements(rng),
@@ -68,6 +78,7 @@ fn changed(rng: &mut Rng) -> Session {
         (6, _) => s.stub.current = Some(number(rng)),
         (7, _) => s.memory[rng.below(64) as usize] = rng.next() as u8,
         (8, _) => s.stub.processes[slot % 2].state = 8,
+        (10, _) => s.stub.protected = stretch(rng),
         (9, _) => s.stub.table.iter_mut().flatten().for_each(|one| one.elements = elements(rng)),
         _ => {}
     }
@@ -157,7 +168,10 @@ fn setups() {
         let (base, size) = (number(&mut rng) & !3, (number(&mut rng) % 66_000) & !3);
         let memory = vec![0; size as usize + usize::from(rng.below(9) == 0)];
         let registers = vec![0; 136 * count + usize::from(rng.below(9) == 0)];
-        match stub.setup(base, size, &processes, &memory, &registers) {
+        let Protected { offset, length } = stretch(&mut rng);
+        let from = u64::from(base) + u64::from(offset);
+        let protected = from..from + u64::from(length);
+        match stub.setup(base, size, protected, &processes, &memory, &registers) {
             Ok(()) => assert!(fit(&stub, &memory)),
             Err(refusal) => {
                 assert!(matches!(refusal, Refusal::Setup | Refusal::Size));

@@ -3,16 +3,27 @@
 mod common;
 
 use common::*;
-use reference::{fit, Breakpoint, Draft, Element, List, Refusal, Session, Stub};
+use reference::{fit, Breakpoint, Draft, Element, List, Protected, Refusal, Session, Stub};
+use std::ops::Range;
 
 const TWO: [(u32, u32); 2] = [(5, 0x8000_1000), (7, 0x8000_2000)];
 
 /// Setup over a record that was in use, with buffers of the right size.
 fn setup(base: u32, size: u32, processes: &[(u32, u32)]) -> (Result<(), Refusal>, Stub) {
+    setup_protecting(base, size, base.into()..base.into(), processes)
+}
+
+/// The same with a protected stretch.
+fn setup_protecting(
+    base: u32,
+    size: u32,
+    protected: Range<u64>,
+    processes: &[(u32, u32)],
+) -> (Result<(), Refusal>, Stub) {
     let mut s = used();
     let memory = vec![0x11; size as usize & 0xf_ffff];
     let registers = vec![0x22; 136 * processes.len()];
-    let done = s.stub.setup(base, size, processes, &memory, &registers);
+    let done = s.stub.setup(base, size, protected, processes, &memory, &registers);
     (done, s.stub)
 }
 
@@ -67,14 +78,65 @@ fn setup_takes_one_to_four_distinct_pids() {
     }
 }
 
+/// The bounds of a window, and what the record has of a stretch in it.
+#[test]
+fn setup_takes_a_stretch_of_the_window() {
+    const TOP: u64 = 1 << 32;
+    let accepted = [
+        (B, 64, 4_096..4_096, (0, 0)),
+        (B, 64, 4_128..4_128, (32, 0)),
+        (B, 64, 4_160..4_160, (64, 0)),
+        (B, 64, 4_096..4_100, (0, 4)),
+        (B, 64, 4_156..4_160, (60, 4)),
+        (B, 64, 4_096..4_160, (0, 64)),
+        (B, 65_536, 4_096..69_632, (0, 65_536)),
+        (0xffff_0000, 65_536, TOP - 65_536..TOP, (0, 65_536)),
+        (0xffff_0000, 65_536, TOP - 4..TOP, (65_532, 4)),
+        (0xffff_fffc, 4, TOP..TOP, (4, 0)),
+        (0xffff_fffc, 4, TOP - 4..TOP - 4, (0, 0)),
+    ];
+    for (base, size, protected, (offset, length)) in accepted {
+        let (done, stub) = setup_protecting(base, size, protected.clone(), &TWO);
+        assert_eq!(done, Ok(()), "{base} {size} {protected:?}");
+        assert_eq!(stub.protected, Protected { offset, length });
+    }
+    let refused = [
+        (B, 4_097..4_100),
+        (B, 4_098..4_100),
+        (B, 4_096..4_099),
+        (B, 4_098..4_098),
+        (B, 4_092..4_100),
+        (B, 4_092..4_092),
+        (B, 0..0),
+        (B, 0..4_100),
+        (B, Range { start: 4_104, end: 4_100 }),
+        (B, Range { start: 4_160, end: 4_096 }),
+        (B, 4_156..4_164),
+        (B, 4_164..4_164),
+        (B, 4_096..TOP + 4_100),
+        (B, TOP + 4_096..TOP + 4_100),
+        (B, 4_096..u64::MAX - 3),
+        (0xffff_ffc0, TOP - 4..TOP + 4),
+        (0xffff_ffc0, TOP + 4..TOP + 4),
+        (0xffff_ffc0, Range { start: TOP - 4, end: 0 }),
+        (0xffff_ffc0, 0..0),
+    ];
+    for (base, protected) in refused {
+        let done = setup_protecting(base, 64, protected.clone(), &TWO);
+        assert_eq!(done, (Err(Refusal::Setup), Stub::empty()), "{base} {protected:?}");
+    }
+}
+
 #[test]
 fn setup_tests_rule_1_before_2() {
     for (memory, registers) in [(63, 272), (65, 272), (64, 271), (64, 136), (0, 0)] {
         let (memory, registers) = (vec![0; memory], vec![0; registers]);
         let mut stub = used().stub;
-        assert_eq!(stub.setup(B, 64, &TWO, &memory, &registers), Err(Refusal::Size));
+        let mut set = |base, from, to| stub.setup(base, 64, from..to, &TWO, &memory, &registers);
+        assert_eq!(set(B + 2, 4_096, 4_096), Err(Refusal::Setup));
+        assert_eq!(set(B, 4_096, 4_098), Err(Refusal::Setup));
+        assert_eq!(set(B, 4_096, 4_100), Err(Refusal::Size));
         assert_eq!(stub, Stub::empty());
-        assert_eq!(stub.setup(B + 2, 64, &TWO, &memory, &registers), Err(Refusal::Setup));
     }
 }
 
@@ -149,7 +211,7 @@ fn conditions(s: &mut Session, counts: [usize; 3]) {
 }
 
 /// Changes that leave the used session fit.
-const HARMLESS: [Change; 11] = [
+const HARMLESS: [Change; 16] = [
     |s| s.stub.table[0].as_mut().unwrap().plain = [0x02, 0x90],
     |s| s.stub.processes[0].state = 200,
     |s| s.stub.processes[0].address = s.stub.processes[1].address,
@@ -161,10 +223,15 @@ const HARMLESS: [Change; 11] = [
     |s| conditions(s, [0, 64, 64]),
     |s| conditions(s, [43, 42, 43]),
     |s| s.stub.table.swap(0, 7),
+    |s| s.stub.protected = Protected { offset: 0, length: 8 },
+    |s| s.stub.protected = Protected { offset: 12, length: 52 },
+    |s| s.stub.protected = Protected { offset: 8, length: 0 },
+    |s| s.stub.protected = Protected { offset: 64, length: 0 },
+    |s| s.stub.protected = Protected { offset: 60, length: 4 },
 ];
 
 /// Changes that spoil it, each by one rule.
-const SPOILING: [Change; 33] = [
+const SPOILING: [Change; 47] = [
     |s| s.stub.base += 2,
     |s| s.stub.base = 0,
     |s| s.stub.base = 4_100,
@@ -209,6 +276,27 @@ const SPOILING: [Change; 33] = [
     |s| conditions(s, [64, 64, 1]),
     |s| conditions(s, [1, 64, 64]),
     |s| conditions(s, [43, 43, 43]),
+    |s| s.stub.protected = Protected { offset: 2, length: 0 },
+    |s| s.stub.protected = Protected { offset: 1, length: 4 },
+    |s| s.stub.protected = Protected { offset: 16, length: 2 },
+    |s| s.stub.protected = Protected { offset: 16, length: 7 },
+    |s| s.stub.protected = Protected { offset: 60, length: 8 },
+    |s| s.stub.protected = Protected { offset: 68, length: 0 },
+    |s| s.stub.protected = Protected { offset: u32::MAX - 3, length: 4 },
+    |s| s.stub.protected = Protected { offset: 16, length: u32::MAX - 15 },
+    |s| s.stub.protected = Protected { offset: u32::MAX - 3, length: u32::MAX - 3 },
+    // The sites are at 8 and 10.
+    |s| s.stub.protected = Protected { offset: 8, length: 4 },
+    |s| s.stub.protected = Protected { offset: 0, length: 12 },
+    |s| s.stub.protected = Protected { offset: 8, length: 56 },
+    |s| {
+        s.stub.table[1] = None;
+        s.stub.protected = Protected { offset: 4, length: 8 };
+    },
+    |s| {
+        s.stub.table[0] = None;
+        s.stub.protected = Protected { offset: 8, length: 8 };
+    },
 ];
 
 #[test]

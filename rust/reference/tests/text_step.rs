@@ -133,7 +133,8 @@ fn alignment_comes_before_the_window() {
 fn the_last_word_there_is() {
     let (mut memory, mut registers) = (vec![7; 8], vec![0; 136]);
     let mut stub = reference::Stub::empty();
-    stub.setup(u32::MAX - 7, 8, &[(1, 0)], &memory, &registers).unwrap();
+    let base = u32::MAX - 7;
+    stub.setup(base, 8, base.into()..base.into(), &[(1, 0)], &memory, &registers).unwrap();
     let mut reply = [FILL; LONGEST_TEXT];
     let mut ask =
         |request: &[u8]| stub.text(&mut memory, &mut registers, request, &mut reply).unwrap().done;
@@ -223,14 +224,14 @@ fn the_condition_in_hand_stays() {
 
 #[test]
 fn errnos_are_those_of_unix() {
-    assert_eq!(Errno::ALL.map(Errno::number), [3, 14, 16, 22]);
+    assert_eq!(Errno::ALL.map(Errno::number), [3, 13, 14, 16, 22]);
 }
 
 /// What the book says of text steps that are answered wrongly.
 #[test]
 fn the_book_reads_the_answers() {
     let s = Session::worked();
-    let mut book = Book::new(B, &[5, 7], &s.memory);
+    let mut book = Book::new(B, B.into()..B.into(), &[5, 7], &s.memory);
     for (letter, val) in [(b'n', 4), (b'b', 4_104)] {
         assert_eq!(book.request(&cond(letter, val), &[], &reply(17, &[]), None), Ok(()));
     }
@@ -259,7 +260,7 @@ fn the_book_reads_the_answers() {
 #[test]
 fn the_book_writes_what_i_and_d_write() {
     let mut s = Session::worked();
-    let mut book = Book::new(B, &[5, 7], &s.memory);
+    let mut book = Book::new(B, B.into()..B.into(), &[5, 7], &s.memory);
     let broken = Err("memory is not plain memory with the traps laid over it");
     for request in ["0x0 I 0x1008 0xa0b0c0d0", "0x0 D 0x103c 0x1", "0x0 I 0x1040 0x1"] {
         let answer = text(&mut s, request);

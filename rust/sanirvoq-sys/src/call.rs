@@ -100,6 +100,7 @@ impl Kind {
 /// Memory and registers are `&mut` in every step. The steps that change neither are proved to leave
 /// them equal, which is less than to write nothing: over a shared slice even a write of the byte
 /// that is there already would be a race with other readers.
+#[derive(Debug)]
 pub struct Lent<'a> {
     /// The record.
     pub record: &'a mut Record,
@@ -107,6 +108,10 @@ pub struct Lent<'a> {
     pub memory: &'a mut [u8],
     /// The register area.
     pub registers: &'a mut [u8],
+    /// The first address of a setup's protected stretch.
+    pub from: u64,
+    /// The first address behind it.
+    pub to: u64,
     /// The process of an event.
     pub pid: u32,
     /// The value of a state event.
@@ -122,7 +127,7 @@ impl Lent<'_> {
     #[must_use]
     #[inline(always)]
     pub fn call(self, kind: Kind) -> u32 {
-        let Self { record, memory, registers, pid, value, input, reply } = self;
+        let Self { record, memory, registers, from, to, pid, value, input, reply } = self;
         let target = &raw mut record.target;
         let places = record.places.as_mut_ptr();
         let (memory, memory_length) = lent(memory);
@@ -157,12 +162,8 @@ impl Lent<'_> {
                     memory_length,
                     registers,
                     registers_length,
-                    pid,
-                    value,
-                    input,
-                    input_length,
-                    reply,
-                    reply_length,
+                    from,
+                    to,
                 ),
             }
         }
@@ -209,7 +210,7 @@ pub fn numbers(list: &mut [Run]) -> &mut [u32] {
 
 /// Writes a text packet; answers as the archive does.
 #[must_use]
-pub fn text_write(packet: TextPacket, buffer: &mut [u8]) -> TextWritten {
+pub fn text_encode(packet: TextPacket, buffer: &mut [u8]) -> TextWritten {
     let (buffer, length) = lent(buffer);
     // SAFETY: The pointer and the length come from one reference, and nobody else has what it lends.
     // The function always returns, does not unwind and keeps no pointer.
@@ -218,7 +219,7 @@ pub fn text_write(packet: TextPacket, buffer: &mut [u8]) -> TextWritten {
 
 /// Reads a text packet; answers as the archive does.
 #[must_use]
-pub fn text_read(bytes: &[u8]) -> TextFound {
+pub fn text_decode(bytes: &[u8]) -> TextFound {
     let (bytes, length) = shared(bytes);
     // SAFETY: The pointer and the length come from one reference, taken as `const`. The function
     // always returns, does not unwind and keeps no pointer.

@@ -75,6 +75,10 @@ pub struct Target {
     pub base: u32,
     /// The bytes of the window.
     pub size: u32,
+    /// The first byte of the protected stretch, from the window's first on.
+    pub protected_offset: u32,
+    /// The bytes of the protected stretch.
+    pub protected_length: u32,
     /// How many of the processes there are.
     pub count: u32,
     /// The processes, in the order of their blocks in the register area.
@@ -248,11 +252,11 @@ const _: () = assert!(size_of::<Entry>() == 12 && offset_of!(Entry, count) == 2)
 const _: () = assert!(offset_of!(Entry, plain) == 3 && offset_of!(Entry, site) == 8);
 const _: () = assert!(size_of::<Draft>() == 3 && size_of::<Process>() == 12);
 const _: () = assert!(size_of::<Table>() == 100 && offset_of!(Table, draft) == 96);
-const _: () = assert!(size_of::<Target>() == 168 && offset_of!(Target, processes) == 12);
-const _: () = assert!(offset_of!(Target, selected) == 60 && offset_of!(Target, current) == 64);
-const _: () = assert!(offset_of!(Target, table) == 68);
-const _: () = assert!(size_of::<Record>() == 1192 && align_of::<Record>() == 4);
-const _: () = assert!(offset_of!(Record, places) == 168);
+const _: () = assert!(size_of::<Target>() == 176 && offset_of!(Target, protected_offset) == 8);
+const _: () = assert!(offset_of!(Target, processes) == 20 && offset_of!(Target, selected) == 68);
+const _: () = assert!(offset_of!(Target, current) == 72 && offset_of!(Target, table) == 76);
+const _: () = assert!(size_of::<Record>() == 1200 && align_of::<Record>() == 4);
+const _: () = assert!(offset_of!(Record, places) == 176);
 const _: () = assert!(size_of::<Fields>() == 20);
 const _: () = assert!(size_of::<Comparison>() == 8);
 const _: () = assert!(size_of::<TextPacket>() == 16 && align_of::<TextPacket>() == 4);
@@ -332,19 +336,16 @@ steps!((
 });
 
 exports! {
-    /// A setup, which has no places.
+    /// A setup, which has no places; the protected stretch is from the first of the last two
+    /// addresses to before the second.
     fn sanirvoq_step_setup(
         target: *mut Target,
         memory: *mut u8,
         memory_length: Length,
         registers: *mut u8,
         registers_length: Length,
-        pid: u32,
-        value: u8,
-        input: *const u8,
-        input_length: Length,
-        reply: *mut u8,
-        reply_length: Length,
+        protected_from: u64,
+        protected_to: u64,
     ) -> u32;
     /// Writes a message's ten bytes.
     fn sanirvoq_message_encode(fields: Fields, buffer: *mut u8, length: Length) -> u8;

@@ -2,19 +2,21 @@
 //! what the checker proved.
 //!
 //! [`ffi`] has its functions and records, as `include/sanirvoq.h` has them; [`call`] calls them over
-//! references, which is safe. All unsafe code between a program in Rust and the archive stands in
-//! these two modules. The crate `sanirvoq` answers with enums in the place of numbers.
+//! references, which is safe. All unsafe code between a program in Rust and the archive stands in this
+//! crate; `sanirvoq` above it answers with enums in the place of numbers.
 //!
 //! `build.rs` says where the archive is looked for, and what is so where there is none.
 
 #![no_std]
-#![deny(missing_docs, unsafe_op_in_unsafe_fn)]
+#![deny(missing_debug_implementations, missing_docs, unsafe_op_in_unsafe_fn)]
 
 pub mod call;
 pub mod ffi;
 mod places;
+mod words;
 
 pub use places::Element;
+pub use words::{RecordWords, WORDS};
 
 /// The bytes of a message, of a request and of a reply.
 pub const MESSAGE: usize = 10;

@@ -2,22 +2,29 @@
 //! and behind it, step by step. `examples/kernel.c` is the same in C and prints the same text, which
 //! is kept in `examples/kernel.txt`.
 
-use sanirvoq::{differences, frame_reply, Answer, FrameReader, Frames, Message, Refusal, Run};
-use sanirvoq::{
-    Served, Stub, TextPacket, Verdict, BLOCK, FRAMED_REPLY, FRAME_BUFFER, MESSAGE, TEXT,
-};
+use sanirvoq::{differences, frame_reply, Answer, FrameReader, Frames, Message, Process, Refusal};
+use sanirvoq::{Run, Served, Setup, Stub, TextPacket, Verdict};
+use sanirvoq::{BLOCK, FRAMED_REPLY, FRAME_BUFFER, MESSAGE, TEXT};
 use std::error::Error;
 
 const BASE: u32 = 0x1000;
 const SIZE: u8 = 64;
-const PROCESSES: [(u32, u32); 2] = [(5, 0x8000_1000), (7, 0x8000_2000)];
+const PROCESSES: [Process; 2] =
+    [Process { pid: 5, address: 0x8000_1000 }, Process { pid: 7, address: 0x8000_2000 }];
 const SITE: u32 = 0x1008;
+/// Where the word of the laser's power limit is.
+const LIMIT: u32 = 0x1038;
 /// Where pc is in a block.
 const PC: usize = BLOCK - 4;
 /// The bytes of a trap.
 const TRAP: u32 = 2;
 /// A state byte.
 const RUNNING: u8 = 4;
+
+fn setup() -> Setup<'static> {
+    let limit = u64::from(LIMIT);
+    Setup::new(BASE, SIZE.into(), &PROCESSES).protecting(limit..limit + 4)
+}
 
 type Done = Result<(), Box<dyn Error>>;
 
@@ -36,8 +43,8 @@ impl Kernel {
         let mut registers = vec![0; PROCESSES.len() * BLOCK];
         let mut body = [0; FRAME_BUFFER];
         let reader = Frames::new(&mut body)?.reader();
-        let stub = Stub::setup(BASE, SIZE.into(), &PROCESSES, &mut memory, &mut registers)?;
-        for (block, (pid, _)) in registers.chunks_exact_mut(BLOCK).zip(PROCESSES) {
+        let stub = Stub::setup(&setup(), &mut memory, &mut registers)?;
+        for (block, Process { pid, .. }) in registers.chunks_exact_mut(BLOCK).zip(PROCESSES) {
             // A register has 0x100 times its number, plus the pid.
             for (word, number) in block.chunks_exact_mut(4).zip(0..32).skip(1) {
                 word.copy_from_slice(&(0x100 * number + pid).to_be_bytes());
@@ -49,7 +56,7 @@ impl Kernel {
     /// A process's block of the register area. This kernel keeps the registers there while the
     /// process runs, too.
     fn block_of(&mut self, pid: u32) -> &mut [u8] {
-        let start = if pid == PROCESSES[0].0 { 0 } else { BLOCK };
+        let start = if pid == PROCESSES[0].pid { 0 } else { BLOCK };
         &mut self.registers[start..start + BLOCK]
     }
 
@@ -284,6 +291,17 @@ impl Kernel {
         Ok(())
     }
 
+    fn keep_off_the_limit(&mut self) -> Done {
+        println!(
+            "The laser's power limit at 0x1038 is protected. She reads it, and cannot change it."
+        );
+        self.get(LIMIT, 4)?;
+        self.put(0x1035, [0xff; 4])?;
+        self.condition(&[(b'n', 6), (b'b', 0x103a)])?;
+        self.ask_text(b'D', LIMIT, u32::MAX)?;
+        self.ask_text(b'd', LIMIT, 0)
+    }
+
     fn speak_in_frames(&mut self) -> Done {
         println!(
             "The line is noisy. A packet comes with a wrong bit, then whole and in two pieces."
@@ -332,8 +350,7 @@ impl Kernel {
         println!("The kernel puts back what lies under the other trap, and sets up anew.");
         let left_out = self.stub.put_back(&mut self.memory, BASE);
         line("put back", &format!("{left_out} breakpoint left out"));
-        let (memory, registers) = (&mut self.memory, &mut self.registers);
-        self.stub.setup_in_place(BASE, SIZE.into(), &PROCESSES, memory, registers)?;
+        self.stub.setup_in_place(&setup(), &mut self.memory, &mut self.registers)?;
         self.get(0x1010, 8)
     }
 }
@@ -350,6 +367,7 @@ fn main() -> Done {
     kernel.stop_other()?;
     kernel.speak_text()?;
     kernel.be_refused()?;
+    kernel.keep_off_the_limit()?;
     kernel.speak_in_frames()?;
     kernel.restart()?;
     kernel.compare()?;

@@ -92,6 +92,7 @@ fn answer(a: FrameAnswer) -> Option<Answer> {
 }
 
 /// A reader with its body buffer.
+#[derive(Debug)]
 pub struct Frames<'a> {
     reader: FrameReader,
     buffer: &'a mut [u8],
@@ -159,6 +160,7 @@ impl<'a> Frames<'a> {
 }
 
 /// The answers to a piece of the line.
+#[derive(Debug)]
 pub struct Answers<'f, 'a, 'p> {
     frames: &'f mut Frames<'a>,
     piece: &'p [u8],

@@ -16,12 +16,14 @@
 #![cfg_attr(archive, doc = "```")]
 #![cfg_attr(not(archive), doc = "```no_run")]
 //! # fn main() -> Result<(), sanirvoq::Refusal> {
-//! use sanirvoq::{Served, Stub, BLOCK, MESSAGE};
+//! use sanirvoq::{Process, Served, Setup, Stub, BLOCK, MESSAGE};
 //!
 //! let mut memory: Vec<u8> = (0..64).collect();
 //! let mut registers = vec![0; 2 * BLOCK];
-//! let processes = [(5, 0x8000_1000), (7, 0x8000_2000)];
-//! let mut stub = Stub::setup(0x1000, 64, &processes, &mut memory, &mut registers)?;
+//! let process = |pid, address| Process { pid, address };
+//! let processes = [process(5, 0x8000_1000), process(7, 0x8000_2000)];
+//! let setup = Setup::new(0x1000, 64, &processes).protecting(0x1038..0x103c);
+//! let mut stub = Stub::setup(&setup, &mut memory, &mut registers)?;
 //!
 //! let request = [2, 0, 0, 0x10, 0x04, 4, 0, 0, 0, 0];
 //! let mut reply = [0; MESSAGE];
@@ -35,13 +37,16 @@
 //! Buffers that overlap do not compile:
 //!
 //! ```compile_fail
+//! # use sanirvoq::{Process, Setup, Stub};
+//! # let processes = [Process { pid: 5, address: 0 }];
 //! let mut memory = [0; 136];
-//! sanirvoq::Stub::setup(0x1000, 136, &[(5, 0)], &mut memory, &mut memory);
+//! let setup = Setup::new(0x1000, 136, &processes);
+//! let stub = Stub::setup(&setup, &mut memory, &mut memory);
 //! ```
 
 #![no_std]
 #![forbid(unsafe_code)]
-#![deny(missing_docs)]
+#![deny(missing_debug_implementations, missing_docs)]
 #![warn(clippy::must_use_candidate)]
 #![cfg_attr(not(test), deny(clippy::expect_used, clippy::panic, clippy::unreachable))]
 #![cfg_attr(not(test), deny(clippy::unwrap_used))]
@@ -59,8 +64,8 @@ pub use image::{differences, NotCompared};
 pub use message::{Message, Reason};
 pub use refusal::Refusal;
 pub use sanirvoq_sys::ffi::{FrameReader, Run};
-pub use sanirvoq_sys::{call, ffi, Element, BLOCK, MESSAGE};
-pub use stub::{Served, Stub, Verdict};
+pub use sanirvoq_sys::{call, ffi, Element, RecordWords, BLOCK, MESSAGE, WORDS};
+pub use stub::{Process, Served, Setup, Stub, Verdict};
 pub use text::{NotText, TextPacket};
 pub use text_step::{Errno, Space, TextReply, TextRequest, TextServed};
 

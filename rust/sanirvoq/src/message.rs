@@ -19,7 +19,7 @@ pub enum Reason {
     Inval,
     /// An unlisted pid, or no current process.
     Pid,
-    /// A type that is not served.
+    /// A type that is not served, or a protected byte that would be written.
     Unsup,
     /// The process is not Stopped.
     Notstop,

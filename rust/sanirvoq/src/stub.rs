@@ -1,11 +1,53 @@
 //! The steps of the stub over slices.
 
 use crate::{Refusal, TextPacket, TextReply, TextRequest, TextServed, TEXT};
+use core::ops::Range;
 use sanirvoq_sys::call::{self, Kind, Lent};
-use sanirvoq_sys::ffi::{Process, Record, Target};
+use sanirvoq_sys::ffi::{Record, Target};
 
 /// The bytes of a trap in memory.
 const TRAP: [u8; 2] = [0x02, 0x90];
+
+/// A process of a setup.
+#[derive(Debug, Clone, Copy, PartialEq, Eq, Hash)]
+pub struct Process {
+    /// Its pid, at least 1.
+    pub pid: u32,
+    /// The address of its Proc structure, for the host.
+    pub address: u32,
+}
+
+/// What a setup is given.
+///
+/// The rules: `size` is a multiple of 4, from 4 to 65,536; `base` is a multiple of 4, at least 4,096,
+/// and `base + size` at most 2^32; the bounds of `protected` are multiples of 4 and lie, rising, from
+/// `base` to `base + size`; there are one to four processes, no two with the same pid.
+#[derive(Debug, Clone, PartialEq, Eq, Hash)]
+pub struct Setup<'a> {
+    /// The address that the host uses for the first byte of the window.
+    pub base: u32,
+    /// The bytes of the window.
+    pub size: u32,
+    /// The addresses that the host may read, and that no request writes to and no breakpoint stands
+    /// in, such as the limits of a laser's power. Where nothing is protected, `base..base`.
+    pub protected: Range<u64>,
+    /// The processes, in the order of their blocks in the register area.
+    pub processes: &'a [Process],
+}
+
+impl<'a> Setup<'a> {
+    /// A window and its processes, with nothing protected.
+    #[must_use]
+    pub fn new(base: u32, size: u32, processes: &'a [Process]) -> Self {
+        Self { base, size, protected: base.into()..base.into(), processes }
+    }
+
+    /// The same with these addresses protected.
+    #[must_use]
+    pub fn protecting(self, protected: Range<u64>) -> Self {
+        Self { protected, ..self }
+    }
+}
 
 /// What the kernel is to do with a process that ran into a trap.
 #[derive(Debug, Clone, Copy, PartialEq, Eq)]
@@ -47,37 +89,39 @@ pub struct Stub {
 }
 
 impl Stub {
-    /// The stub of a window of `size` bytes at `base` and of processes, each a pid and a Proc
-    /// address. Changes neither buffer. Refused with [`Refusal::Setup`] or [`Refusal::Size`].
+    /// The stub of a setup. Changes neither buffer. Refused with [`Refusal::Setup`] or
+    /// [`Refusal::Size`].
     pub fn setup(
-        base: u32,
-        size: u32,
-        processes: &[(u32, u32)],
+        setup: &Setup<'_>,
         memory: &mut [u8],
         registers: &mut [u8],
     ) -> Result<Self, Refusal> {
         let mut stub = Self::default();
-        stub.setup_in_place(base, size, processes, memory, registers)?;
+        stub.setup_in_place(setup, memory, registers)?;
         Ok(stub)
     }
 
     /// The same over this record, whatever it holds. A refused setup leaves it empty. No place is
-    /// held afterwards; what stands in the places stays.
+    /// held afterwards; what stands in the places stays. Breakpoints that it held are forgotten; see
+    /// [`Stub::put_back`].
     pub fn setup_in_place(
         &mut self,
-        base: u32,
-        size: u32,
-        processes: &[(u32, u32)],
+        setup: &Setup<'_>,
         memory: &mut [u8],
         registers: &mut [u8],
     ) -> Result<(), Refusal> {
+        let &Setup { base, size, ref protected, processes } = setup;
         // More than the record has room for is for the archive to refuse, by the count.
         let count = u32::try_from(processes.len()).unwrap_or(u32::MAX);
         self.record.target = Target { base, size, count, ..Target::default() };
-        for (process, &(pid, address)) in self.record.target.processes.iter_mut().zip(processes) {
-            *process = Process { pid, address, ..Process::default() };
+        for (listed, &Process { pid, address }) in
+            self.record.target.processes.iter_mut().zip(processes)
+        {
+            (listed.pid, listed.address) = (pid, address);
         }
-        answer(self.lent(memory, registers).call(Kind::Setup)).map(drop)
+        let (from, to) = (protected.start, protected.end);
+        let lent = Lent { from, to, ..self.lent(memory, registers) };
+        answer(lent.call(Kind::Setup)).map(drop)
     }
 
     /// Serves a request of ten bytes with ten reply bytes, which may be Rerr, and says what else is
@@ -151,10 +195,12 @@ impl Stub {
     #[cfg_attr(archive, doc = "```")]
     #[cfg_attr(not(archive), doc = "```no_run")]
     /// # fn main() -> Result<(), sanirvoq::Refusal> {
-    /// use sanirvoq::{Stub, BLOCK, TEXT};
+    /// use sanirvoq::{Process, Setup, Stub, BLOCK, TEXT};
     ///
     /// let (mut memory, mut registers) = ([4, 5, 6, 7], [0; BLOCK]);
-    /// let mut stub = Stub::setup(0x1004, 4, &[(5, 0)], &mut memory, &mut registers)?;
+    /// let processes = [Process { pid: 5, address: 0 }];
+    /// let setup = Setup::new(0x1004, 4, &processes);
+    /// let mut stub = Stub::setup(&setup, &mut memory, &mut registers)?;
     /// let mut buffer = [0; TEXT];
     /// let served = stub.text(&mut memory, &mut registers, b"0x0 i 0x1004 0x0", &mut buffer)?;
     /// assert_eq!(served.text(), b"0x0 i 0x0 0x7060504");
@@ -180,10 +226,12 @@ impl Stub {
     #[cfg_attr(archive, doc = "```")]
     #[cfg_attr(not(archive), doc = "```no_run")]
     /// # fn main() -> Result<(), sanirvoq::Refusal> {
-    /// use sanirvoq::{Errno, Space, Stub, TextRequest, BLOCK};
+    /// use sanirvoq::{Errno, Process, Setup, Space, Stub, TextRequest, BLOCK};
     ///
     /// let (mut memory, mut registers) = ([4, 5, 6, 7], [0; BLOCK]);
-    /// let mut stub = Stub::setup(0x1004, 4, &[(5, 0)], &mut memory, &mut registers)?;
+    /// let processes = [Process { pid: 5, address: 0 }];
+    /// let setup = Setup::new(0x1004, 4, &processes);
+    /// let mut stub = Stub::setup(&setup, &mut memory, &mut registers)?;
     /// let write = TextRequest::WriteWord { space: Space::Data, address: 0x1004, data: 1 };
     /// assert_eq!(stub.text_request(&mut memory, &mut registers, write)?, Ok(0x0706_0504));
     /// assert_eq!(memory, [1, 0, 0, 0]);
@@ -200,7 +248,7 @@ impl Stub {
     ) -> Result<TextReply, Refusal> {
         let (mut text, mut reply) = ([0; TEXT], [0; TEXT]);
         // Its buffer is long enough and its letter in the range, so it is proved to be written.
-        let written = call::text_write(TextPacket::from(request).into(), &mut text);
+        let written = call::text_encode(TextPacket::from(request).into(), &mut text);
         let request = &text[..written.filled as usize];
         self.text(memory, registers, request, &mut reply).map(|served| served.reply())
     }
@@ -245,7 +293,8 @@ impl Stub {
     /// What every step is lent.
     fn lent<'a>(&'a mut self, memory: &'a mut [u8], registers: &'a mut [u8]) -> Lent<'a> {
         let record = &mut self.record;
-        Lent { record, memory, registers, pid: 0, value: 0, input: &[], reply: &mut [] }
+        let (from, to, pid, value) = (0, 0, 0, 0);
+        Lent { record, memory, registers, from, to, pid, value, input: &[], reply: &mut [] }
     }
 }
 

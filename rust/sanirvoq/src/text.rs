@@ -77,7 +77,7 @@ impl TextPacket {
     /// # Ok::<(), sanirvoq::NotText>(())
     /// ```
     pub fn encode(self, buffer: &mut [u8]) -> Result<&mut [u8], NotText> {
-        let done = call::text_write(self.into(), buffer);
+        let done = call::text_encode(self.into(), buffer);
         NotText::check(done.number)?;
         Ok(&mut buffer[..done.filled as usize])
     }
@@ -94,7 +94,7 @@ impl TextPacket {
     /// # Ok::<(), sanirvoq::NotText>(())
     /// ```
     pub fn decode(bytes: &[u8]) -> Result<Self, NotText> {
-        let found = call::text_read(bytes);
+        let found = call::text_decode(bytes);
         NotText::check(found.number)?;
         Ok(found.packet.into())
     }

@@ -75,6 +75,8 @@ impl From<TextRequest> for TextPacket {
 pub enum Errno {
     /// The PID is not 0; or a register is named, and no process is current.
     Esrch,
+    /// The word to be written has a protected byte.
+    Eacces,
     /// The word is not all in the window.
     Efault,
     /// A register is named, and the current process is not Stopped.
@@ -88,13 +90,14 @@ pub enum Errno {
 
 impl Errno {
     /// All that have a name.
-    pub const ALL: [Self; 4] = [Self::Esrch, Self::Efault, Self::Ebusy, Self::Einval];
+    pub const ALL: [Self; 5] = [Self::Esrch, Self::Eacces, Self::Efault, Self::Ebusy, Self::Einval];
 
     /// The number in the reply's RESPONSE.
     #[must_use]
     pub fn number(self) -> u32 {
         match self {
             Self::Esrch => 3,
+            Self::Eacces => 13,
             Self::Efault => 14,
             Self::Ebusy => 16,
             Self::Einval => 22,
@@ -114,6 +117,7 @@ impl fmt::Display for Errno {
     fn fmt(&self, f: &mut fmt::Formatter<'_>) -> fmt::Result {
         f.write_str(match self {
             Self::Esrch => "no such process",
+            Self::Eacces => "the word is protected",
             Self::Efault => "bad address",
             Self::Ebusy => "the process is not stopped",
             Self::Einval => "invalid argument",
@@ -180,7 +184,7 @@ impl<'a> TextServed<'a> {
     /// What the text says.
     pub fn reply(&self) -> TextReply {
         // The text is proved to be a packet's.
-        let response = call::text_read(self.text).packet.fourth;
+        let response = call::text_decode(self.text).packet.fourth;
         if self.carried_out {
             Ok(response)
         } else {
@@ -195,9 +199,9 @@ mod tests {
 
     #[test]
     fn errnos_are_those_of_unix_and_no_other() {
-        assert_eq!(Errno::ALL.map(Errno::number), [3, 14, 16, 22]);
+        assert_eq!(Errno::ALL.map(Errno::number), [3, 13, 14, 16, 22]);
         for number in 0..256 {
-            let listed = [3, 14, 16, 22].contains(&number);
+            let listed = [3, 13, 14, 16, 22].contains(&number);
             let errno = Errno::from_number(number);
             assert_eq!(errno.number(), number);
             assert_eq!(errno == Errno::Other(number), !listed);

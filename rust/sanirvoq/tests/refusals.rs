@@ -4,7 +4,7 @@ mod common;
 
 use common::*;
 use sanirvoq::ffi::{Entry, Record, Target};
-use sanirvoq::{Refusal, Served, Stub, Verdict, TEXT};
+use sanirvoq::{Process, Refusal, Served, Setup, Stub, Verdict, TEXT};
 
 /// A session with breakpoints 3 and 4, a condition in hand, a current and a Stopped process.
 fn used() -> Session {
@@ -202,19 +202,14 @@ fn any_bytes_are_a_record() {
 
 /// A setup over a record that was in use, with buffers of these sizes, and what it leaves of the
 /// record besides the places, which it leaves as they are.
-fn setup(
-    (base, size): (u32, u32),
-    processes: &[(u32, u32)],
-    memory: usize,
-    registers: usize,
-) -> (Result<(), Refusal>, Target) {
+fn setup(setup: &Setup<'_>, memory: usize, registers: usize) -> (Result<(), Refusal>, Target) {
     let (mut memory, mut registers) = (vec![0x11; memory], vec![0x22; registers]);
     let mut stub = used().stub;
     let places = stub.raw().places;
-    let done = stub.setup_in_place(base, size, processes, &mut memory, &mut registers);
+    let done = stub.setup_in_place(setup, &mut memory, &mut registers);
     assert!(memory.iter().all(|&byte| byte == 0x11) && registers.iter().all(|&byte| byte == 0x22));
     assert_eq!(stub.raw().places, places);
-    let made = Stub::setup(base, size, processes, &mut memory, &mut registers);
+    let made = Stub::setup(setup, &mut memory, &mut registers);
     assert_eq!(made.map(|made| made.raw().target), done.map(|()| stub.raw().target));
     (done, stub.raw().target)
 }
@@ -224,10 +219,18 @@ fn setup(
 fn an_accepted_setup_makes_the_whole_record() {
     for (base, size) in [(B, 4), (B, 65_536), (0xffff_fffc, 4), (0xffff_0000, 65_536)] {
         let mut target = Target { base, size, count: 2, ..Target::default() };
-        for (process, (pid, address)) in target.processes.iter_mut().zip(TWO) {
+        for (process, Process { pid, address }) in target.processes.iter_mut().zip(TWO) {
             (process.pid, process.address, process.state) = (pid, address, 2);
         }
-        assert_eq!(setup((base, size), &TWO, size as usize, 272), (Ok(()), target));
+        let window = Setup::new(base, size, &TWO);
+        assert_eq!(setup(&window, size as usize, 272), (Ok(()), target));
+        let (base, end) = (u64::from(base), u64::from(base) + u64::from(size));
+        for (from, to) in [(base, base), (base, end), (end, end), (end - 4, end)] {
+            let (offset, length) = ((from - base) as u32, (to - from) as u32);
+            let protected = Target { protected_offset: offset, protected_length: length, ..target };
+            let stretch = window.clone().protecting(from..to);
+            assert_eq!(setup(&stretch, size as usize, 272), (Ok(()), protected));
+        }
     }
 }
 
@@ -246,14 +249,29 @@ fn a_broken_setup_rule_leaves_the_empty_record() {
         (0xffff_0004, 65_536),
     ];
     for (base, size) in windows {
-        assert_eq!(setup((base, size), &TWO, size as usize, 272), empty, "{base} {size}");
+        let window = Setup::new(base, size, &TWO);
+        assert_eq!(setup(&window, size as usize, 272), empty, "{base} {size}");
     }
-    let five = [(1, 0), (2, 0), (3, 0), (4, 0), (9, 0)];
-    for processes in [&[][..], &five, &[(0, 1)], &[(5, 1), (7, 1), (5, 2)]] {
-        let registers = 136 * processes.len();
-        assert_eq!(setup((B, 64), processes, 64, registers), empty, "{processes:?}");
+    for pids in [&[][..], &[1, 2, 3, 4, 9], &[0], &[5, 7, 5]] {
+        let listed: Vec<_> = pids.iter().map(|&pid| Process { pid, address: 1 }).collect();
+        let registers = 136 * pids.len();
+        assert_eq!(setup(&Setup::new(B, 64, &listed), 64, registers), empty, "{pids:?}");
     }
-    assert_eq!(setup((B + 2, 64), &TWO, 63, 271), empty, "1 comes before 2");
+    let stretches = [
+        (4_098, 4_100),
+        (4_100, 4_102),
+        (4_092, 4_100),
+        (4_104, 4_100),
+        (4_156, 4_164),
+        (4_164, 4_164),
+        ((1 << 32) + 4_096, (1 << 32) + 4_100),
+        (4_096, u64::MAX - 3),
+    ];
+    for (from, to) in stretches {
+        let stretch = Setup::new(B, 64, &TWO).protecting(from..to);
+        assert_eq!(setup(&stretch, 64, 272), empty, "{from} {to}");
+    }
+    assert_eq!(setup(&Setup::new(B + 2, 64, &TWO), 63, 271), empty, "1 comes before 2");
 }
 
 #[test]
@@ -261,7 +279,8 @@ fn a_broken_setup_rule_leaves_the_empty_record() {
 fn a_setup_over_wrong_buffers_leaves_the_empty_record() {
     let empty = (Err(Refusal::Size), Target::default());
     for (memory, registers) in [(63, 272), (68, 272), (0, 272), (64, 271), (64, 408), (64, 0)] {
-        assert_eq!(setup((B, 64), &TWO, memory, registers), empty, "{memory} {registers}");
+        let window = Setup::new(B, 64, &TWO);
+        assert_eq!(setup(&window, memory, registers), empty, "{memory} {registers}");
     }
 }
 

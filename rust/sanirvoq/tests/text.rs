@@ -1,6 +1,6 @@
 //! Packets of the text dialect.
 
-use sanirvoq::call::{text_read, text_write};
+use sanirvoq::call::{text_decode, text_encode};
 use sanirvoq::ffi::{TextFound, TextWritten};
 use sanirvoq::{NotText, TextPacket, TEXT};
 
@@ -91,9 +91,9 @@ fn other_bytes_are_no_packet() {
 #[cfg_attr(not(archive), ignore = "needs libsanirvoq.a")]
 fn refused_calls_say_zeros() {
     let mut buffer = [OTHER; TEXT];
-    assert_eq!(text_read(b"0x1 i 0x2 0x3q"), TextFound { number: 10, ..TextFound::default() });
+    assert_eq!(text_decode(b"0x1 i 0x2 0x3q"), TextFound { number: 10, ..TextFound::default() });
     let refused = TextWritten { number: 11, filled: 0 };
-    assert_eq!(text_write(packet(1, b'i', 2, 3).into(), &mut buffer[1..]), refused);
+    assert_eq!(text_encode(packet(1, b'i', 2, 3).into(), &mut buffer[1..]), refused);
     let refused = TextWritten { number: 10, filled: 0 };
-    assert_eq!(text_write(packet(1, 0x7f, 2, 3).into(), &mut buffer), refused);
+    assert_eq!(text_encode(packet(1, 0x7f, 2, 3).into(), &mut buffer), refused);
 }

@@ -11,11 +11,14 @@ const PID_REQUESTS: [u8; 5] = [6, 8, 10, 12, 14];
 /// How often each of the things below happens. The long conditions and the full pool take many steps
 /// each, so they are rare.
 const WEIGHTS: [u32; 17] = [80, 20, 26, 2, 2, 8, 32, 24, 96, 22, 18, 56, 8, 34, 2, 4, 1];
+/// How often something is aimed at the protected stretch: where it is empty, and where not.
+const AT_STRETCH: [u32; 2] = [6, 44];
 
 impl Burst<'_> {
     /// One thing that may happen in a session.
     pub fn act(&mut self) {
-        match self.rng.weighted(&WEIGHTS) {
+        let at_stretch = AT_STRETCH[usize::from(self.protects())];
+        match self.rng.weighted(&[&WEIGHTS[..], &[at_stretch]].concat()) {
             0 => self.memory(),
             1 => self.registers(),
             2 => self.condition(),
@@ -32,7 +35,8 @@ impl Burst<'_> {
             13 => self.any_type(),
             14 => self.restart(),
             15 => self.noise(),
-            _ => self.fill_pool(),
+            16 => self.fill_pool(),
+            _ => self.protected(),
         }
     }
 

@@ -39,7 +39,7 @@ impl Burst<'_> {
     /// Whether a breakpoint may be set there.
     pub(crate) fn is_free(&self, site: u32) -> bool {
         let inside = site.wrapping_sub(self.stub.base) < self.stub.size;
-        inside && self.stub.at_site(site).is_none()
+        inside && self.stub.at_site(site).is_none() && !self.stub.protects(site, 2)
     }
 
     /// Mostly a free site, beside a standing one where there is room.
@@ -51,9 +51,10 @@ impl Burst<'_> {
         near.unwrap_or_else(|| self.even())
     }
 
-    /// A site for b: mostly free, else taken, odd, outside or anywhere even.
+    /// A site for b: mostly free, else taken, odd, outside, at the protected stretch or anywhere even.
     pub(crate) fn site(&mut self) -> u32 {
-        match self.rng.weighted(&[55, 6, 5, 6, 28]) {
+        let at_stretch = if self.protects() { 10 } else { 2 };
+        match self.rng.weighted(&[55, 6, 5, 6, 28, at_stretch]) {
             0 => self.free_site(),
             1 => self.standing_site(),
             2 => self.inside() | 1,
@@ -62,7 +63,8 @@ impl Burst<'_> {
                 let below = base.wrapping_sub(2);
                 self.rng.pick(&[0, 130, 132, below, end.wrapping_sub(2), end, u32::MAX - 1, any])
             }
-            _ => self.even(),
+            4 => self.even(),
+            _ => self.edge_site(),
         }
     }
 

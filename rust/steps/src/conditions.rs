@@ -45,7 +45,7 @@ impl Burst<'_> {
     fn elements(&mut self) -> Vec<(u8, u32)> {
         let (pid, other) = (self.pid(15), self.pid(50));
         let (low, end) = (self.rng.pick(&[0, 0, 1, 2]), self.rng.pick(b"aao"));
-        match self.rng.weighted(&[10, 14, 26, 12, 20, 4, 6, 5, 2, 2]) {
+        match self.rng.weighted(&[10, 14, 26, 12, 20, 4, 6, 5, 2, 4]) {
             0 => vec![],
             1 => vec![(b'k', pid), (b'a', 0)],
             2 => self.compared(end),

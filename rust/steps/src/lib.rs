@@ -6,7 +6,8 @@
 //! - [`burst`]: a few steps that belong together; what they are aimed at, their conditions and what
 //!   they do are in modules of their own
 //! - [`tally`]: counts what was reached, [`continues`] what a Tstart found, [`places`] how the limits
-//!   of conditions were met; [`table`] prints it and says what is lacking
+//!   of conditions were met, [`protection`] how the protected stretch was; [`table`] prints it and says
+//!   what is lacking
 //! - [`program`]: random steps over the worked setup
 //! - [`texts`]: packets of the text dialect, which the program has not
 
@@ -20,6 +21,8 @@ pub mod continues;
 mod limits;
 pub mod places;
 pub mod program;
+mod protected;
+pub mod protection;
 pub mod rng;
 pub mod step;
 pub mod table;

@@ -4,19 +4,23 @@ use crate::step::Step;
 use crate::table::{must, texts, Cell, Section};
 use crate::tally::word;
 use crate::ELEMENT_LETTERS;
-use reference::{Stub, ELEMENTS, PC, PLACES};
+use reference::{depth, Stub, ELEMENTS, PC, PLACES};
 
-/// The places held before a step.
+/// The places held before a step, and what may be done with the condition in hand.
 #[derive(Debug, Clone, Copy, Default, PartialEq, Eq)]
 pub struct Held {
     /// Those of the condition in hand; none where nothing is.
     pub hand: Option<usize>,
     pub all: usize,
+    /// The depth of the condition in hand; none where nothing is.
+    pub depth: Option<usize>,
 }
 
 impl Held {
     pub fn of(stub: &Stub) -> Self {
-        Self { hand: stub.draft.as_ref().map(|draft| draft.elements.len()), all: stub.held() }
+        let elements = stub.draft.as_ref().map(|draft| &draft.elements);
+        let depth = elements.and_then(|elements| depth(elements));
+        Self { hand: elements.map(Vec::len), all: stub.held(), depth }
     }
 }
 

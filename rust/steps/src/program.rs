@@ -13,10 +13,21 @@ const NUMBERS: [&[usize]; 6] = [&[], &[0], &[0, 4, 5, 6], &[0, 4], &[0, 4, 5], &
 
 /// Writes random steps; never a kind other than 1 to 5, never a cut step. Gives what they came to
 /// in a session of the independent stub.
-pub fn write(seed: u64, count: u64, mut output: impl Write) -> io::Result<[Section; 8]> {
-    let mut generator = Generator::new(seed);
-    let mut session = Session::worked();
+pub fn write(seed: u64, count: u64, output: impl Write) -> io::Result<[Section; 8]> {
     let mut tally = Tally::default();
+    write_over(Session::worked(), seed, count, output, &mut tally)?;
+    Ok(tally.sections(&NUMBERS, false))
+}
+
+/// The same over any session, with what they came to counted.
+pub fn write_over(
+    mut session: Session,
+    seed: u64,
+    count: u64,
+    mut output: impl Write,
+    tally: &mut Tally,
+) -> io::Result<()> {
+    let mut generator = Generator::new(seed);
     let mut left = count;
     while left > 0 {
         let mut burst = generator.burst(&session.stub, &session.memory);
@@ -26,11 +37,10 @@ pub fn write(seed: u64, count: u64, mut output: impl Write) -> io::Result<[Secti
                 break;
             }
             left -= 1;
-            output.write_all(&run(&step, &mut session, &mut tally))?;
+            output.write_all(&run(&step, &mut session, tally))?;
         }
     }
-    output.flush()?;
-    Ok(tally.sections(&NUMBERS))
+    output.flush()
 }
 
 /// Runs a step in the session. Gives its bytes.

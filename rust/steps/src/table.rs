@@ -6,6 +6,8 @@ pub enum Cell {
     /// It must be reached.
     Must(u64),
     May(u64),
+    /// It must not be.
+    Never(u64),
     /// It cannot be.
     None,
 }
@@ -41,7 +43,7 @@ pub fn table(sections: &[Section]) -> String {
     sections.iter().map(Section::text).collect::<Vec<_>>().join("\n")
 }
 
-/// What had to be reached and was not.
+/// What had to be reached and was not, and what was and must not be.
 pub fn lacking(sections: &[Section]) -> Vec<String> {
     sections.iter().flat_map(Section::lacking).collect()
 }
@@ -58,8 +60,10 @@ impl Section {
             text.push_str(&format!("  {name:<44}"));
             for cell in cells {
                 text.push_str(&match cell {
-                    Cell::Must(count) | Cell::May(count) => format!(" {count:>9}"),
-                    Cell::None => format!(" {:>9}", "-"),
+                    Cell::None | Cell::Never(0) => format!(" {:>9}", "-"),
+                    Cell::Must(count) | Cell::May(count) | Cell::Never(count) => {
+                        format!(" {count:>9}")
+                    }
                 });
             }
             text.push('\n');
@@ -70,11 +74,16 @@ impl Section {
     fn lacking(&self) -> Vec<String> {
         let mut lacking = Vec::new();
         for (name, cells) in &self.rows {
-            let zeros = cells.iter().enumerate().filter(|(_, cell)| matches!(cell, Cell::Must(0)));
-            for (i, _) in zeros {
+            for (i, cell) in cells.iter().enumerate() {
                 let place = format!("column {}", i + 1);
                 let column = self.columns.get(i).unwrap_or(&place);
-                lacking.push(format!("{}: {name}: {column}", self.title));
+                match cell {
+                    Cell::Must(0) => lacking.push(format!("{}: {name}: {column}", self.title)),
+                    Cell::Never(1..) => {
+                        lacking.push(format!("not {}: {name}: {column}", self.title));
+                    }
+                    _ => {}
+                }
             }
         }
         lacking

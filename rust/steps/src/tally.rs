@@ -3,6 +3,7 @@
 
 use crate::continues::Continues;
 use crate::places::{Held, Places};
+use crate::protection::Protection;
 use crate::step::Step;
 use crate::table::{must, texts, Cell, Section};
 use crate::LETTERS;
@@ -26,6 +27,9 @@ const TYPES: [(u8, &str, bool, &[usize]); 11] = [
     (22, "Tkill", false, &[5]),
 ];
 
+/// The index of unsup in [`Reason::ALL`].
+const UNSUP: usize = 5;
+
 pub struct Tally {
     /// By kind, 0 a setup and 1 to 5 as in the program's format.
     numbers: [[u64; 7]; 6],
@@ -47,6 +51,8 @@ pub struct Tally {
     bounds: [u64; 4],
     standing: [u64; 9],
     places: Places,
+    /// Its section is for runs whose setups protect something.
+    pub protection: Protection,
     /// Fed apart, in sessions only.
     pub continues: Continues,
 }
@@ -67,6 +73,7 @@ impl Default for Tally {
             bounds: [0; 4],
             standing: [0; 9],
             places: Places::default(),
+            protection: Protection::default(),
             continues: Continues::default(),
         }
     }
@@ -101,6 +108,7 @@ impl Tally {
     /// and the stub that it left.
     pub fn answer(&mut self, step: &Step, answer: &[u8], before: Held, stub: &Stub) {
         self.places.take(step, answer, before, stub);
+        self.protection.take(step, answer, before, stub);
         match (step, answer) {
             (Step::Request(request), _) => {
                 let (reply, plain) = answer.split_at(MESSAGE);
@@ -161,12 +169,13 @@ impl Tally {
 
     // ---- As a table. ----
 
-    /// The eight sections, with the numbers that each kind can have; a kind with none has no row.
-    pub fn sections(&self, possible: &[&[usize]; 6]) -> [Section; 8] {
+    /// The eight sections, with the numbers that each kind can have; a kind with none has no row. Where
+    /// setups protect something, Tmput and Tcondbreak can be unsup.
+    pub fn sections(&self, possible: &[&[usize]; 6], protects: bool) -> [Section; 8] {
         let (by_number, by_answer) = (self.by_number(possible), self.by_answer());
         let (continues, by_letter) = (self.continues.section(), self.by_letter());
         let [refused, held, by_elements] = self.places.sections();
-        let by_type = self.by_type();
+        let by_type = self.by_type(protects);
         [by_number, by_type, by_answer, continues, by_letter, refused, held, by_elements]
     }
 
@@ -183,7 +192,7 @@ impl Tally {
         section
     }
 
-    fn by_type(&self) -> Section {
+    fn by_type(&self, protects: bool) -> Section {
         let reasons = Reason::ALL.map(|one| String::from_utf8_lossy(&one.text()).replace('\0', ""));
         let columns = texts(["all", "served"]).into_iter().chain(reasons).collect();
         let title = "requests of number 0, by type and reason";
@@ -193,7 +202,9 @@ impl Tally {
             (0..9).map(|i| Cell::where_possible(reached(i), counts[i])).collect()
         };
         for (kind, name, served, reasons) in TYPES {
-            section.row(name, cells(&self.types[usize::from(kind)], served, reasons));
+            let unsup = (protects && matches!(kind, 4 | 16)).then_some(UNSUP);
+            let reasons: Vec<usize> = reasons.iter().copied().chain(unsup).collect();
+            section.row(name, cells(&self.types[usize::from(kind)], served, &reasons));
         }
         let rest = (0..=255u8).filter(|kind| TYPES.iter().all(|one| one.0 != *kind));
         let rest: Vec<_> = rest.map(|kind| self.types[usize::from(kind)]).collect();

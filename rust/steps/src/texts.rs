@@ -40,11 +40,11 @@ impl Burst<'_> {
         }
     }
 
-    /// The address of a word: under traps, at the window's ends, elsewhere in the window, beside it;
-    /// or of none, unaligned or not.
+    /// The address of a word: under traps, at the window's ends, elsewhere in the window, beside it, at
+    /// the protected stretch; or of none, unaligned or not.
     fn word_address(&mut self) -> u32 {
         let (base, end) = (self.stub.base, self.end());
-        match self.rng.weighted(&[34, 12, 12, 20, 12, 10]) {
+        match self.rng.weighted(&[34, 12, 12, 20, 12, 10, 12]) {
             0 => self.standing_site() & !3,
             1 => self.word_of_two_traps().unwrap_or(base),
             2 => self.rng.pick(&[base, end.wrapping_sub(4)]),
@@ -53,7 +53,8 @@ impl Burst<'_> {
                 let beside = [base.wrapping_sub(4), end, end.wrapping_add(4), 0, 4, 132, 136];
                 self.rng.pick(&beside)
             }
-            _ => self.address(),
+            5 => self.address(),
+            _ => self.edge_word(),
         }
     }
 

@@ -4,7 +4,21 @@ use reference::{
     body_length, fit, write_text, Book, Claim, Element, Errno, Places, Session, Stub, TextPacket,
     Verdict, BLOCK, LONGEST_TEXT, MESSAGE,
 };
+use std::ops::Range;
+use steps::table::{lacking, table};
+use steps::tally::Tally;
 use steps::{program, Generator};
+
+/// Nothing, and a word, both ends and the middle of the window of 64 bytes at 4,096.
+const STRETCHES: [Range<u64>; 7] = [
+    4_096..4_096,
+    4_104..4_108,
+    4_096..4_100,
+    4_152..4_160,
+    4_112..4_144,
+    4_128..4_128,
+    4_160..4_160,
+];
 
 /// Feeds a step that got number 0; `registers` are those lent to it.
 fn feed(book: &mut Book, kind: u8, body: &[u8], answer: &[u8], registers: &[u8]) -> Claim {
@@ -61,9 +75,9 @@ fn check_refused(before: &Session, s: &Session, kind: u8, body: &[u8]) {
     assert_eq!(*s, wanted);
 }
 
-fn replay(steps: &[u8]) {
-    let (mut s, mut at) = (Session::worked(), 0);
-    let mut book = Book::new(s.stub.base, &[5, 7], &s.memory);
+fn replay(steps: &[u8], protected: Range<u64>) {
+    let (mut s, mut at) = (Session::protecting(protected.clone()).unwrap(), 0);
+    let mut book = Book::new(s.stub.base, protected, &[5, 7], &s.memory);
     let mut places = Places::new();
     while at < steps.len() {
         let (kind, start) = (steps[at], at + 1);
@@ -85,6 +99,7 @@ fn replay(steps: &[u8]) {
         assert_eq!(s.stub.held() as u64, places.held());
         assert!(fit(&s.stub, &s.memory));
         assert_eq!(book.lies_under(&s.memory), Ok(()));
+        assert_eq!(book.keeps_protected(&before.memory, &s.memory), Ok(()));
         check_record(&s.stub, &book);
     }
 }
@@ -97,6 +112,7 @@ fn text_step(s: &mut Session, book: &mut Book, packet: TextPacket) -> Result<u32
     let before = s.clone();
     let Session { stub, memory, registers } = &mut *s;
     let served = stub.text(memory, registers, &request[..length], &mut reply).unwrap();
+    assert_eq!(book.keeps_protected(&before.memory, memory), Ok(()));
     assert_eq!(book.text(&request[..length], &reply[..served.filled]), Ok(()));
     assert!(reply[served.filled..].iter().all(|&byte| byte == 0xee));
     if served.done.is_err() {
@@ -109,8 +125,10 @@ fn text_step(s: &mut Session, book: &mut Book, packet: TextPacket) -> Result<u32
 /// Text steps between the steps of the program: every errno comes, and every letter is carried out.
 #[test]
 fn the_book_agrees_on_text_steps_too() {
-    let (mut s, mut generator) = (Session::worked(), Generator::new(5));
-    let mut book = Book::new(s.stub.base, &[5, 7], &s.memory);
+    let protected = 4_112..4_120;
+    let (mut s, mut generator) =
+        (Session::protecting(protected.clone()).unwrap(), Generator::new(5));
+    let mut book = Book::new(s.stub.base, protected, &[5, 7], &s.memory);
     let (mut done, mut errors) = ([0; 256], [0; 23]);
     for _ in 0..10_000 {
         let mut burst = generator.burst(&s.stub, &s.memory);
@@ -137,11 +155,15 @@ fn the_book_agrees_on_text_steps_too() {
     assert!(Errno::ALL.iter().all(|errno| errors[errno.number() as usize] > 100), "{errors:?}");
 }
 
+/// With each stretch; together they meet it in every way.
 #[test]
 fn the_book_agrees() {
-    for seed in [1, 2, 3, 99] {
-        let mut steps = Vec::new();
-        program::write(seed, 60_000, &mut steps).unwrap();
-        replay(&steps);
+    let mut tally = Tally::default();
+    for (seed, protected) in (1..).zip(STRETCHES) {
+        let (mut steps, session) = (Vec::new(), Session::protecting(protected.clone()).unwrap());
+        program::write_over(session, seed, 40_000, &mut steps, &mut tally).unwrap();
+        replay(&steps, protected);
     }
+    let met = [tally.protection.section()];
+    assert_eq!(lacking(&met), Vec::<String>::new(), "{}", table(&met));
 }

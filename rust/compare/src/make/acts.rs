@@ -1,5 +1,6 @@
 //! What may happen in a session: its steps, and what others do beside them.
 
+use super::setup::stretch;
 use super::{setup_call, Writer};
 use crate::op::Op;
 use reference::{BLOCK, PC};
@@ -25,9 +26,11 @@ impl Writer<'_> {
         }
     }
 
-    /// A setup over the record as it is, with its own window and processes; traps stay in memory.
+    /// A setup over the record as it is, with its own window and processes, and any stretch; traps
+    /// stay in memory.
     fn setup_again(&mut self) {
-        let call = setup_call(self.burst.rng);
+        let protected = stretch(self.burst.rng, self.scene.stub.base, self.scene.stub.size);
+        let call = setup_call(self.burst.rng, protected);
         self.ops.push(Op::Step(call));
     }
 

@@ -96,11 +96,12 @@ impl Damage<'_> {
             }
             let entries = self.target().table.entries;
             let taken = |site| entries.iter().any(|entry| entry.used == 1 && entry.site == site);
-            let mut places = (0..memory.len()).step_by(2);
-            let at = places.find(|&at| !taken(base + at as u32))?;
+            let mut sites = (0..memory.len() as u32 / 2).map(|k| base + 2 * k);
+            let site = sites.find(|&site| !taken(site) && !self.scene.stub.protects(site, 2))?;
+            let at = (site - base) as usize;
             let plain = [memory[at], memory[at + 1], 0, 0];
             memory[at..at + 2].copy_from_slice(&TRAP);
-            let (id, site) = (self.free_id(), base + at as u32);
+            let id = self.free_id();
             self.target().table.entries[i] = Entry { used: 1, id, plain, site, ..Entry::default() };
         }
         self.made.memory = Some(memory);
@@ -141,6 +142,12 @@ impl Damage<'_> {
             _ => self.rng.index(table),
         }
     }
+}
+
+/// The bytes of some words, of at least one: mostly few, up to 2^30.
+pub fn some_words(rng: &mut Rng) -> u32 {
+    let most = 1 << rng.below(28);
+    4 * (1 + rng.below(most))
 }
 
 /// A byte that is no flag.

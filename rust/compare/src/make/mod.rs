@@ -11,6 +11,7 @@ mod texts;
 use crate::op::{Call, Kind, Op};
 use crate::record::Record;
 use reference::Stub;
+use std::ops::Range;
 use steps::{Burst, Generator, Rng, Step};
 
 /// What there is to aim at.
@@ -87,12 +88,13 @@ fn call(rng: &mut Rng, step: Step) -> Call {
     };
     let reply = kind.reply().unwrap_or(spare);
     let (memory, registers, damage) = (None, None, None);
-    Call { kind, pid, value, input, reply, fill: noise[2], memory, registers, damage }
+    let (protected, fill) = (u64::from(any_pid)..noise[4].into(), noise[2]);
+    Call { kind, protected, pid, value, input, reply, fill, memory, registers, damage }
 }
 
-/// A setup; what it does not use is anything.
-fn setup_call(rng: &mut Rng) -> Call {
-    Call { kind: Kind::Setup, ..call(rng, Step::Restart) }
+/// A setup with this stretch; what it does not use is anything.
+fn setup_call(rng: &mut Rng, protected: Range<u64>) -> Call {
+    Call { kind: Kind::Setup, protected, ..call(rng, Step::Restart) }
 }
 
 impl<'a> Writer<'a> {

@@ -1,6 +1,6 @@
 //! The sorts of damage. Each names the one thing that it does to a record.
 
-use super::damage::{no_flag, past_counts, random_table, Damage};
+use super::damage::{no_flag, past_counts, random_table, some_words, Damage};
 use super::pool::{high_bit, no_letter, over_64, OPERATORS};
 use super::setup::two;
 use reference::{ENTRIES, PLACES, STOPPED, TRAP};
@@ -43,7 +43,7 @@ const fn sort(name: &'static str, expect: Expect, apply: Apply) -> Sort {
     Sort { name, expect, apply }
 }
 
-pub const SORTS: [Sort; 63] = [
+pub const SORTS: [Sort; 70] = [
     // The window.
     sort("B no multiple of 4", Expect::Unfit, |d| d.set(|t, rng| t.base ^= rng.pick(&[1, 2, 3]))),
     sort("B under 4,096", Expect::Unfit, |d| d.set(|t, rng| t.base = 4 * rng.below(1_024))),
@@ -63,6 +63,51 @@ pub const SORTS: [Sort; 63] = [
         d.resize_memory(size)
     }),
     sort("M another, memory not", Expect::Size, |d| d.set(|t, rng| t.size ^= 1 << rng.below(32))),
+    // The protected stretch.
+    sort("a stretch that begins at no multiple of 4", Expect::Unfit, |d| {
+        d.set(|t, rng| t.protected_offset ^= rng.pick(&[1, 2, 3]))
+    }),
+    sort("a stretch of no multiple of 4", Expect::Unfit, |d| {
+        d.set(|t, rng| t.protected_length ^= rng.pick(&[1, 2, 3]))
+    }),
+    sort("a stretch that leaves the window", Expect::Unfit, |d| {
+        d.set(|t, rng| {
+            let (offset, over) = (4 * rng.below(t.size / 4), some_words(rng));
+            (t.protected_offset, t.protected_length) = (offset, t.size - offset + over);
+        })
+    }),
+    sort("an empty stretch behind the window", Expect::Unfit, |d| {
+        d.set(|t, rng| (t.protected_offset, t.protected_length) = (t.size + some_words(rng), 0))
+    }),
+    sort("a stretch that fits in 32 bits only", Expect::Unfit, |d| {
+        d.set(|t, rng| {
+            // Their sum is 2^32 and the end of a sound stretch.
+            let (below, end) = (some_words(rng), 4 * rng.below(t.size / 4 + 1));
+            let (one, other) = (below.wrapping_neg(), below + end);
+            (t.protected_offset, t.protected_length) =
+                if rng.chance(50) { (one, other) } else { (other, one) };
+        })
+    }),
+    sort("a site in the stretch", Expect::Unfit, |d| {
+        let i = d.used()?;
+        let at = (d.target().table.entries[i].site - d.target().base) & !3;
+        d.set(|t, rng| {
+            let (before, after) = (rng.below(at / 4 + 1), rng.below((t.size - at) / 4));
+            let (before, after) = (4 * rng.pick(&[0, before]), 4 * rng.pick(&[0, after]));
+            (t.protected_offset, t.protected_length) = (at - before, before + 4 + after);
+        })
+    }),
+    sort("another stretch, off all sites", Expect::Fit, |d| {
+        let words = d.target().size / 4;
+        let first = d.rng.below(words + 1);
+        let (any, most) = (d.rng.below(words - first + 1), 1 << d.rng.below(8));
+        let length = any.min(most);
+        let (offset, length) = (4 * first, 4 * length);
+        let (base, entries) = (d.target().base, d.target().table.entries);
+        let within = |entry: &Entry| (entry.site - base).wrapping_sub(offset) < length;
+        let free = !entries.iter().any(|entry| entry.used == 1 && within(entry));
+        free.then(|| d.set(|t, _| (t.protected_offset, t.protected_length) = (offset, length)))?
+    }),
     // The processes.
     sort("no process, no register", Expect::Unfit, |d| d.resize_registers(0)),
     sort("over four processes, registers to suit", Expect::Unfit, |d| {

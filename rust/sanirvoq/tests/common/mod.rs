@@ -1,10 +1,11 @@
 //! Shared by the tests: the worked setup, the bytes of requests, and what is asked of the stub.
 #![allow(dead_code)]
 
-use sanirvoq::{Refusal, Served, Stub, Verdict, BLOCK, MESSAGE};
+use sanirvoq::{Process, Refusal, Served, Setup, Stub, Verdict, BLOCK, MESSAGE};
 
 pub const B: u32 = 4_096;
-pub const TWO: [(u32, u32); 2] = [(5, 0x8000_1000), (7, 0x8000_2000)];
+pub const TWO: [Process; 2] =
+    [Process { pid: 5, address: 0x8000_1000 }, Process { pid: 7, address: 0x8000_2000 }];
 
 /// A stub and what the kernel lends it.
 #[derive(Debug, Clone, PartialEq, Eq)]
@@ -17,9 +18,14 @@ pub struct Session {
 impl Session {
     /// The worked setup: 64 bytes at 4,096, byte i is i, processes 5 and 7.
     pub fn worked() -> Self {
+        Self::of(&Setup::new(B, 64, &TWO))
+    }
+
+    /// A setup of two processes over 64 bytes, byte i is i, which must be accepted.
+    pub fn of(setup: &Setup<'_>) -> Self {
         let mut memory: Vec<u8> = (0..64).collect();
         let mut registers = vec![0; TWO.len() * BLOCK];
-        let stub = Stub::setup(B, 64, &TWO, &mut memory, &mut registers).unwrap();
+        let stub = Stub::setup(setup, &mut memory, &mut registers).unwrap();
         Self { stub, memory, registers }
     }
 
