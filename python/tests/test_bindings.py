@@ -114,7 +114,8 @@ C_NAMES = {structures.Entry: "entry", structures.Draft: "draft", structures.Tabl
            structures.Found: "found", structures.Comparison: "comparison", structures.TextFields: "text_packet",
            structures.TextWritten: "text_written", structures.TextFound: "text_found",
            structures.FrameReaderState: "frame_reader", structures.FrameAnswer: "frame_answer",
-           structures.FrameFed: "frame_fed"}
+           structures.FrameFed: "frame_fed", structures.PlannedWrite: "write", structures.Verdict: "verdict",
+           structures.Planning: "planning"}
 
 
 def test_structs_are_the_headers(tmp_path: Path) -> None:

@@ -149,8 +149,3 @@ def test_every_command_has_help(command: Command) -> None:
     ran = command("--help")
     assert all(COMMANDS[name].usage in ran.out for name in COMMANDS) and "exit status" in ran.out
 
-
-def test_nobody_to_ask(command: Command, tmp_path: Path) -> None:
-    (tmp_path / "image.bin").write_bytes(b"frog")
-    ran = command("--head", "practice", "patch", "image.bin", "at", "0x1000")
-    assert ran.status == 2 and "nothing was sent" in ran.err
