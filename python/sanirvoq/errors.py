@@ -26,6 +26,15 @@ class CommandError(BenchError):
         self.length = length
 
 
+class FileError(BenchError):
+    """A file of this machine that cannot be read or written."""
+
+    status = 2
+
+    def __init__(self, error: OSError) -> None:
+        super().__init__(f"{error.filename or 'a file'}: {error.strerror or error}")
+
+
 class Refused(BenchError):
     """The head answered Rerr: `reason` is its word, `meaning` what that says here, `advice` what to do."""
 

@@ -104,7 +104,7 @@ BAD = ["frog", "re", "read", "read 0x1000", "read 0x1000 0", "read 0x1000 x", "r
        "window 0x1001 4", "window 0x1000 5", "window 0x10 4", "protected 0x1001 0x1004", "protected 0x1008 0x1004",
        "line 3", "log 0", "decode", "decode /no/such/file", "text", "text ii 0x1000", "text i", "text I 0x1000",
        "text i frog", "restart now", "event", "event frog", "event trap 7", "event trap 7 at 0x1008", "run",
-       "run /no/such/file", "help frog", 'read "0x1000', "write 0x1000 \x01"]
+       "run /no/such/file", "run /tmp", "save 0x1000 4 /tmp", "map svg /tmp", "write 0x1000 file /tmp", "help frog", 'read "0x1000', "write 0x1000 \x01"]
 
 
 @pytest.mark.parametrize("line", BAD)
@@ -141,6 +141,12 @@ def test_a_refused_command_says_why_and_changes_nothing(line: str, capfd: pytest
     pair.head.close()
 
 
+def test_files_that_cannot_be_written(command: Command) -> None:
+    for option in ("--log", "--session"):
+        ran = command("--head", "practice", option, "/no/such/folder/file", "read", "0x1000", "1")
+        assert ran.status == 2 and "/no/such/folder/file: No such file" in ran.err
+
+
 def test_every_command_has_help(command: Command) -> None:
     for name in COMMANDS:
         assert COMMANDS[name].usage.startswith(name) and COMMANDS[name].summary
@@ -148,4 +154,3 @@ def test_every_command_has_help(command: Command) -> None:
     assert ran.status == 0 and ran.out.startswith("break ID at ADDRESS [if CONDITION]")
     ran = command("--help")
     assert all(COMMANDS[name].usage in ran.out for name in COMMANDS) and "exit status" in ran.out
-

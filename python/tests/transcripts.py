@@ -1,6 +1,6 @@
 """The sessions of README.md, typed again at a terminal.
 
-    python3 tests/transcripts.py     puts what is shown today into README.md
+    python3 tests/transcripts.py [practice | qemu]     puts what is shown today into README.md
 
 A fenced block `practice` is typed at `sanirvoq practice`, a block `qemu` at `sanirvoq practice qemu`. A line that
 begins with `$ ` is a command of the shell, in the same folder. Times are not compared, nor when the head says its
@@ -74,6 +74,8 @@ def main() -> None:
     text = README.read_text(encoding="utf-8")
 
     def again(match: re.Match[str]) -> str:
+        if sys.argv[1:] not in ([], [match.group(1)]):
+            return match.group()
         with tempfile.TemporaryDirectory() as folder:
             os.environ["XDG_STATE_HOME"] = folder
             return f"```{match.group(1)}\n{session(match.group(1), match.group(2), Path(folder))}```"

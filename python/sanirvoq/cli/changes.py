@@ -2,16 +2,13 @@
 
 from __future__ import annotations
 
-from pathlib import Path
-
 from .. import patches, picture
-from ..condition import refuse
 from ..errors import CommandError, LineError, Refused
 from ..images import Run, differences
 from ..transfer import compare
 from .bench import Bench
 from .command import Command
-from .memory import file_bytes, stays_lines
+from .memory import file_bytes, file_to_make, stays_lines
 from .output import Result, counted, said, table
 from .words import Words
 
@@ -129,10 +126,7 @@ def draw_map(bench: Bench, words: Words) -> Result:
         image = image_at(words)
     path = None
     if words.take("svg"):
-        token = words.next("the SVG file")
-        path = Path(token.text)
-        if not path.parent.is_dir():
-            refuse(f"there is no folder {path.parent}", token)
+        path = file_to_make(words.next("the SVG file"))
     words.end()
     base, size = bench.window()
     if image is not None:

@@ -113,8 +113,8 @@ def text_packet(words: Words) -> texts.TextPacket:
     first = words.next("the letter")
     whole = first.text[:1].isdigit()
     letter = words.next("the letter") if whole else first
-    if len(letter.text) != 1:
-        refuse("the letter is one of i, d, I, D, r, R", letter)
+    if len(letter.text) != 1 or not "!" <= letter.text <= "~":
+        refuse(f"the letter is one of {', '.join(TEXT_LETTERS)}", letter)
     third = text_number(words.next("the address or register"), letter.text in "rR")
     fourth = number_of(words.next("the data")) if whole or letter.text in "IDR" else 0
     return texts.TextPacket(letter.text, third, fourth, number_of(first) if whole else 0)

@@ -9,7 +9,7 @@ import sys
 from pathlib import Path
 
 from .. import __version__
-from ..errors import BenchError, CommandError
+from ..errors import BenchError, CommandError, FileError
 from .bench import Bench, Options
 from .output import Output, is_terminal
 from .practice import run_practice
@@ -108,6 +108,9 @@ def entry(arguments: list[str] | None = None) -> int:
     except BenchError as error:
         output.fail(" ".join(given.command), error)
         return error.status
+    except OSError as error:
+        output.fail(" ".join(given.command), FileError(error))
+        return FileError.status
     except KeyboardInterrupt:
         return 130
 

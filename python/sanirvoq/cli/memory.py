@@ -30,6 +30,16 @@ def file_bytes(token: Token) -> bytes:
     return data
 
 
+def file_to_make(token: Token) -> Path:
+    """The path of a file that is to be written."""
+    path = Path(token.text)
+    if path.is_dir():
+        refuse(f"{path} is a folder", token)
+    if not path.parent.is_dir():
+        refuse(f"there is no folder {path.parent}", token)
+    return path
+
+
 def read(bench: Bench, words: Words) -> Result:
     address, length = words.stretch()
     words.end()
@@ -63,11 +73,8 @@ def dump_lines(bench: Bench, address: int, data: bytes) -> list[Text]:
 
 def save(bench: Bench, words: Words) -> Result:
     address, length = words.stretch()
-    token = words.next("the file")
+    path = file_to_make(words.next("the file"))
     words.end()
-    path = Path(token.text)
-    if not path.parent.is_dir():
-        refuse(f"there is no folder {path.parent}", token)
     bench.check_window(address, length)
     bench.head.read(address + length - 1, 1)
     try:

@@ -80,7 +80,7 @@ def go_on(bench: Bench, words: Words) -> Result:
     pid = pid_of(words)
     words.end()
     bench.head.start(pid)
-    return said(f"process {pid} goes on; a breakpoint where it stood stays", pid=pid)
+    return said(f"process {pid} goes on", pid=pid)
 
 
 def wait(bench: Bench, words: Words) -> Result:
@@ -153,7 +153,7 @@ COMMANDS = [
     Command("status", "status PID", "the state of one process", status, group="processes"),
     Command("stop", "stop PID", "stops a process when it is next scheduled", stop, group="processes"),
     Command("continue", "continue PID", "lets a Stopped process go on, or takes a wanted stop back", go_on,
-            "Never sent twice: if its answer is lost, look with `status` before you give it again.", "processes"),
+            "A breakpoint where it stands stays. Never sent twice: if its answer is lost, look with `status` before you give it again.", "processes"),
     Command("wait", "wait PID [SECONDS]", "waits until a process is Stopped (10 s) and says where", wait,
             group="processes"),
     Command("select", "select PID", "makes a process current, for `registers`, `set` and `text r`", select,

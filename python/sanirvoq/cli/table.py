@@ -6,7 +6,7 @@ import difflib
 
 from rich.text import Text
 
-from ..errors import BenchError, CommandError, LineGone
+from ..errors import BenchError, CommandError, FileError, LineGone
 from . import breaks, changes, line, memory, processes
 from .bench import Bench
 from .command import Command
@@ -68,7 +68,10 @@ def execute(bench: Bench, text: str) -> tuple[str, Result]:
     words = Words(text)
     command = find(words.name.text, words.name.at)
     words.usage = command.usage
-    return command.name, command.run(bench, words)
+    try:
+        return command.name, command.run(bench, words)
+    except OSError as error:
+        raise FileError(error) from error
 
 
 def perform(bench: Bench, text: str, typed_at: int | None = None) -> int:

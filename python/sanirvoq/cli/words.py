@@ -19,6 +19,9 @@ class Words:
         self._tokens = [Token(next(part for part in match.groups() if part is not None), match.start())
                         for match in _WORD.finditer(line)]
         self._at = 1
+        for at, character in enumerate(line):
+            if ord(character) < 0x20 and character != "\t":
+                raise CommandError(f"the line has a control character ({ord(character):#04x})", at)
 
     @property
     def name(self) -> Token:
