@@ -150,10 +150,9 @@ conditions_c() {
     c11 -O2 -Iinclude tests/conditions.c "$library" -o "$logs/conditions_c" && under_valgrind "$logs/conditions_c"
 }
 
-# The calls' own description beside the independent stub: two opinions on the stored calls of kind 11.
-protected_calls() {
-    crate build reference --example protected_calls &&
-        python3 tests/protected_calls.py rust/target/release/examples/protected_calls
+# The description that a script of calls has of its own, beside the independent stub: two opinions on the calls.
+calls_by_reference() {
+    crate build reference --example "$1" && python3 "tests/$1.py" "rust/target/release/examples/$1"
 }
 
 example_rust() {
@@ -197,7 +196,8 @@ check calls_vectors python3 tests/calls_vectors.py --check
 check wire_vectors python3 tests/wire_vectors.py --check
 check frame_vectors python3 tests/frame_vectors.py --check
 check program_vectors python3 tests/program_vectors.py --check
-check protected_calls protected_calls
+check protected_calls calls_by_reference protected_calls
+check patch_calls calls_by_reference patch_calls
 check compare_tests tests_of compare
 check compare crate run compare -- --seed 1 --steps 300000
 check compare_frames crate run compare --bin compare_frames -- --seed 1 --lines 100000 --damaged 100000

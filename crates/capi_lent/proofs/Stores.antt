@@ -126,7 +126,7 @@ array-out S n xs vs p = (p .0, ((p .1 .0 .0, sym (length-map xs (S .to)) ∙ p .
 -- ---- the parts of a record, and what closing the borrow asks at the record with another part
 module _ (h : Target) (p : Is T.the-row h (mach h ∷ [])) where
   pub table-is : Is U.the-row (h .table) (LL.vals U.the-type U′.the-laws (h .table))
-  table-is = LL.owed T.the-type T′.the-laws h (mach h ∷ []) p .1 .1 .1 .1 .1 .1 .0
+  table-is = LL.owed T.the-type T′.the-laws h (mach h ∷ []) p .1 .1 .1 .1 .1 .1 .1 .0
 
   pub draft-is : Is P.the-row (h .table .draft) (LL.vals P.the-type P′.the-laws (h .table .draft))
   draft-is = LL.owed U.the-type U′.the-laws (h .table) _ table-is .1 .0
@@ -138,6 +138,7 @@ abbrev pub tabled : Target → Table → Target
 tabled h u = record {
   base = h .base;
   size = h .size;
+  protected = h .protected;
   count = h .count;
   processes = h .processes;
   selected = h .selected;
@@ -157,7 +158,13 @@ tabled-is h u p u-is =
     let w = LL.owed T.the-type T′.the-laws h (mach h ∷ []) p in
     LL.owes T.the-type T′.the-laws (tabled h u) (
       w .0,
-      (w .1 .0, (w .1 .1 .0, (w .1 .1 .1 .0, (w .1 .1 .1 .1 .0, (w .1 .1 .1 .1 .1 .0, (u-is, tt)))))),
+      (
+        w .1 .0,
+        (
+          w .1 .1 .0,
+          (w .1 .1 .1 .0, (w .1 .1 .1 .1 .0, (w .1 .1 .1 .1 .1 .0, (w .1 .1 .1 .1 .1 .1 .0, (u-is, tt))))),
+        ),
+      ),
     )
 
 pub drafted-is : (h : Target) (r : Draft) → Is T.the-row h (mach h ∷ [])

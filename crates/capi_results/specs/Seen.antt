@@ -31,13 +31,14 @@ seen n t mem regs reply = record { result = n; after = world t mem regs; reply =
 unfoldable pub seenOf : Outcome → Seen
 seenOf o = record { result = resultOf (o .number) (o .answer); after = o .after; reply = o .reply }
 
--- a setup takes its arguments from the record, of which a field of each of the four processes
+-- a setup takes its arguments but the protected stretch from the record, of which a field of each of the four processes
 unfoldable pub ofEach : (Process → ℕ) → Target → List ℕ
 ofEach f t =
     let ps = t .processes in
     f (processAt ps 0) ∷ f (processAt ps 1) ∷ f (processAt ps 2) ∷ f (processAt ps 3) ∷ []
 
-unfoldable pub setupFrom : World → Outcome
-setupFrom w =
+unfoldable pub setupFrom : World → ℕ → ℕ → Outcome
+setupFrom w from to =
     let t = w .target in
-    setupOf (t .base) (t .size) (ofEach (λ p. p .pid) t) (ofEach (λ p. p .address) t) (t .count) (w .mem) (w .regs)
+    setupOf (t .base) (t .size) from to (ofEach (λ p. p .pid) t) (ofEach (λ p. p .address) t) (t .count) (w .mem)
+    (w .regs)

@@ -3,11 +3,10 @@ use rules::Answer;
 use step_effect::Done;
 use step_effect::Effect;
 use target::Target;
-ghost use mathlib.Core.List.{List};
+ghost use mathlib.Core.List.{List, []};
 ghost use mathlib.Core.Path.{_≡_};
 ghost use Prim.Native.Nat.{ℕ};
 ghost use Rattle.rules.specs.Outcome.{world};
-ghost use Rattle.step.specs.Kinds.{leaving};
 ghost use Rattle.target.specs.View.{viewOf};
 ghost use Rattle.capi_results.specs.Seen.{resultOf, seen, seenOf, setupFrom};
 
@@ -52,19 +51,10 @@ fn give_whole(d: Done) -> Whole
 }
 
 // Setup: base, size, count, pids and addresses are taken from the record. The pool is left as it is.
-pub fn setup(
-    t: Target,
-    mem: &mut [u8],
-    regs: &mut [u8],
-    pid: u32,
-    value: u8,
-    input: &[u8],
-    reply: &mut [u8],
-) -> Whole
+pub fn setup(t: Target, mem: &[u8], regs: &[u8], from: u64, to: u64) -> Whole
     ensures { λ r. ⌜ ((words : List ℕ)
-        → seen (r .result) (viewOf (r .target) words) (now (mem .exit)) (now (regs .exit)) (now (reply .exit))
-        ≡ seenOf (leaving (now (reply .entry))
-        (setupFrom (world (viewOf t words) (now (mem .entry)) (now (regs .entry)))))) ⌝ }
+        → seen (r .result) (viewOf (r .target) words) (now (mem .entry)) (now (regs .entry)) []
+        ≡ seenOf (setupFrom (world (viewOf t words) (now (mem .entry)) (now (regs .entry))) from to)) ⌝ }
 {
     let ps = t.processes;
     let p0 = ps[0];
@@ -73,6 +63,6 @@ pub fn setup(
     let p3 = ps[3];
     let pids = [p0.pid, p1.pid, p2.pid, p3.pid];
     let addresses = [p0.address, p1.address, p2.address, p3.address];
-    let d = step_setup::setup(t.base, t.size, pids, addresses, t.count, mem, regs);
+    let d = step_setup::setup(t.base, t.size, from, to, pids, addresses, t.count, mem, regs);
     give_whole(d)
 }

@@ -5,6 +5,7 @@ use mathlib.Core.Logic.{_⊎_, inl, inr, ⊎-elim}
 use Prim.Native.Nat.{ℕ, zero, suc, _+_, _-_, _%_, _<_, _≤_}
 use native.Mathlib.Nat.{mod-eq-of-lt}
 use native.Mathlib.Omega.{arith}
+use Rattle.common.specs.Bytes.{lowFirst}
 use Rattle.memory.specs.Head.{Head, width, Lawful, house}
 use Rattle.memory.specs.Overlay.{freeSite, siteOver}
 use Rattle.memory.proofs.Site.{Free, no-site-free}
@@ -47,4 +48,5 @@ module _ {h : Head} (l : Lawful h) where
 
 -- the house's head is one
 pub house-lawful : Lawful house
-house-lawful = record { least = omega arith; divides = refl }
+unfolding lowFirst
+house-lawful = record { least = omega arith; divides = refl; four = λ v. refl }

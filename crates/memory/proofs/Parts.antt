@@ -32,10 +32,6 @@ placed false true p e = (λ h. cc, λ h. refl)
 placed false false p e = (λ h. cc, λ h. cc)
 
 module _ (base size a n : ℕ) where
-  -- the place that is found is the one that the address names
-  pub named : (p q : Place) → p ≡ placeOf base size a n → p ≡ q → placeOf base size a n ≡ q
-  named p q e g = sym e ∙ g
-
   abbrev inWindow : Bool
   inWindow = leb base a && leb (a + n) (base + size)
 

@@ -17,10 +17,12 @@ pub record Head : Type 0 where
 abbrev pub width : Head → ℕ
 width h = length (h .trap)
 
--- traps stand at multiples of their length, which divides an entry's room for plain bytes: two bytes or four
+-- traps stand at multiples of their length, which divides an entry's room for plain bytes: two bytes or four; a word has
+-- four bytes
 pub record Lawful (h : Head) : Type 0 where
   pub least : 2 ≤ width h
   pub divides : plainRoom % width h ≡ 0
+  pub four : (value : ℕ) → length (h .bytes value) ≡ 4
 
 -- 01, "Trap": "the halfword 0x9002 (c.ebreak), in memory the bytes 02 90"; words are "low-order first"
 abbrev pub house : Head

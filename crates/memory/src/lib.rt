@@ -17,11 +17,19 @@ pub const TRAP_FIRST: u8 = 0x02;
 
 pub const TRAP_SECOND: u8 = 0x90;
 
-// Where the bytes that a request names lie; crate `memory_place` says where.
+// Where the bytes that a request names lie; crate `memory_place` says where. Protected are bytes of the window of which
+// one at least may not be written.
 pub enum Place {
     Registers,
     Window,
+    Protected,
     Nowhere,
+}
+
+// What a request does with the bytes that it names.
+pub enum Access {
+    Read,
+    Write,
 }
 
 // The first slot whose site covers an offset, or 8.

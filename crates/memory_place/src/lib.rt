@@ -1,14 +1,45 @@
-// Where the bytes that a request names lie, and the stretch that an address names. Sums do not wrap.
+// Where the bytes that a request names lie, whether they may be written, and the stretch that an address names. Sums do
+// not wrap.
+use memory::Access;
 use memory::Place;
 use target::Process;
+use target::Stretch;
 ghost use mathlib.Core.Path.{_≡_};
 ghost use lib.ListN.{length, take, drop};
 ghost use Rattle.memory.specs.Head.{house, width};
-ghost use Rattle.memory.specs.Place.{placeOf, isSite, stretchOf};
+ghost use Rattle.memory.specs.Place.{placeOf, hasProtected, forbids, namedBy, isSite, stretchOf};
 
-// Where the n bytes from an address lie.
-pub fn place_of(base: u32, size: u32, address: u32, n: u8) -> Place
-    ensures { λ r. ⌜ r ≡ placeOf base size address n ⌝ }
+// Whether one of the n bytes from an offset on is protected.
+pub fn has_protected(p: Stretch, at: u32, n: u32) -> bool
+    ensures { λ r. ⌜ r ≡ hasProtected p at n ⌝ }
+{
+    if n == 0 {
+        return false;
+    }
+    let from = p.offset as u64;
+    let to = from + p.length as u64;
+    if at as u64 + n as u64 <= from {
+        return false;
+    }
+    if to <= at as u64 {
+        return false;
+    }
+    from < to
+}
+
+// Whether the n bytes from an offset on may not be read, or not be written.
+fn forbidden(access: Access, p: Stretch, at: u32, n: u32) -> bool
+    ensures { λ r. ⌜ r ≡ forbids access p at n ⌝ }
+{
+    match access {
+        Access::Read => false,
+        Access::Write => has_protected(p, at, n),
+    }
+}
+
+// Where the n bytes from an address lie that are to be read or written.
+pub fn named_by(access: Access, p: Stretch, base: u32, size: u32, address: u32, n: u8) -> Place
+    ensures { λ r. ⌜ r ≡ namedBy access p base size address n ⌝ }
 {
     let end = address as u64 + n as u64;
     if end <= Process::BLOCK as u64 {
@@ -20,6 +51,9 @@ pub fn place_of(base: u32, size: u32, address: u32, n: u8) -> Place
     let last = base as u64 + size as u64;
     if last < end {
         return Place::Nowhere;
+    }
+    if forbidden(access, p, address - base, n as u32) {
+        return Place::Protected;
     }
     Place::Window
 }

@@ -36,14 +36,15 @@ use Rattle.program_io.specs.declared.Turned.{Turned}
 
 -- the code's setup is the worked one: the two pids and addresses behind the second are of no account
 same-setup : (mem regs : List ℕ) → mem ≡ workedSetup .mem → regs ≡ workedSetup .regs
-    → setupOf 4096 64 (5 ∷ 7 ∷ 0 ∷ 0 ∷ []) (0x80001000 ∷ 0x80002000 ∷ 0 ∷ 0 ∷ []) 2 mem regs ≡ setupBy workedSetup
+    → setupOf 4096 64 4096 4096 (5 ∷ 7 ∷ 0 ∷ 0 ∷ []) (0x80001000 ∷ 0x80002000 ∷ 0 ∷ 0 ∷ []) 2 mem regs
+    ≡ setupBy workedSetup
 unfolding setupBy setupOf setupTarget beginning tab
 same-setup mem regs m r = rw (m, r)
 
 pub begins : (mem regs : List ℕ) → mem ≡ workedSetup .mem → regs ≡ workedSetup .regs
     → (t : Target) (number : ℕ) (answer : Answer)
     → ((words : List ℕ) → outcome number answer (world (viewOf t words) mem regs) []
-    ≡ setupOf 4096 64 (5 ∷ 7 ∷ 0 ∷ 0 ∷ []) (0x80001000 ∷ 0x80002000 ∷ 0 ∷ 0 ∷ []) 2 mem regs)
+    ≡ setupOf 4096 64 4096 4096 (5 ∷ 7 ∷ 0 ∷ 0 ∷ []) (0x80001000 ∷ 0x80002000 ∷ 0 ∷ 0 ∷ []) 2 mem regs)
     → Begins (record { target = t; mem = mem; regs = regs })
 begins mem regs m r t number answer e = record {
   accepted = setup-accepted;

@@ -60,7 +60,7 @@ fn registers() -> [u8; REGISTERS]
     [0; REGISTERS]
 }
 
-// The worked setup: B = 4,096, M = 64, processes 5 and 7. It is accepted.
+// The worked setup: B = 4,096, M = 64, nothing protected, processes 5 and 7. It is accepted.
 pub fn start() -> Beginning
     ensures { λ r. ⌜ Begins r ⌝ }
 {
@@ -69,6 +69,8 @@ pub fn start() -> Beginning
     let done = stub::setup(
         4096,
         64,
+        4096,
+        4096,
         [5, 7, 0, 0],
         [0x80001000, 0x80002000, 0, 0],
         2,

@@ -148,6 +148,10 @@ fn set(t: Target, s: Scan, places: &mut [u32; Table::WORDS], mem: &mut [u8], val
     if !site_free(t, s, val) {
         return fail(Reason::Inval);
     }
+    let protected = t.protected;
+    if memory_place::has_protected(protected, val - t.base, 2) {
+        return fail(Reason::Unsup);
+    }
     if s.depth != 1 {
         return fail(Reason::Inval);
     }

@@ -15,7 +15,8 @@ use Rattle.common.proofs.Same.{and-both, same-eq}
 use Rattle.common.proofs.Tab.{length-tab}
 use Rattle.memory.specs.Head.{house, width}
 use Rattle.memory.proofs.Parts.{part-bytes}
-use Rattle.memory.specs.Place.{placeOf}
+use Rattle.memory.specs.Place.{namedBy}
+use Rattle.memory.specs.declared.Access.the-variants.{Read, Write}
 use Rattle.memory.specs.declared.Place.{Place}
 use Rattle.memory.specs.declared.Place.the-variants.{Registers, Window}
 use Rattle.memory.specs.Write.{plainRead, overwritten, memAfter, plainAfter}
@@ -152,7 +153,8 @@ module _ (w : World) (addr n : ℕ) where
   got-registers (Refused r) f within h reply e = refuses w reply r e ∙ on-it w _ (Refused r) _ f refl
 
   -- what is got from the place that the address names
-  pub got-from : (n ≡ 0 → ⊥) → (q : Place) → placeOf (w .target .base) (w .target .size) addr n ≡ q
+  pub got-from : (n ≡ 0 → ⊥) → (q : Place)
+      → namedBy Read (w .target .protected) (w .target .base) (w .target .size) addr n ≡ q
       → (x : Outcome) → x ≡ gotFrom house q w addr n → x ≡ mget house w addr n
   unfolding mget
   got-from z q e x h = rw (ne-eqb n 0 z, e) h
@@ -230,7 +232,8 @@ module _ (w : World) (addr n : ℕ) (d : Data4) where
   put-none z reply r = rw (eq-eqb n 0 z, r)
 
   -- what is put to the place that the address names
-  pub put-to : (n ≡ 0 → ⊥) → (q : Place) → placeOf (w .target .base) (w .target .size) addr n ≡ q
+  pub put-to : (n ≡ 0 → ⊥) → (q : Place)
+      → namedBy Write (w .target .protected) (w .target .base) (w .target .size) addr n ≡ q
       → (x : Outcome) → x ≡ putTo house q w addr (take n (bytes4 d)) → x ≡ mput house w addr n d
   unfolding mput
   put-to z q e x h = rw (ne-eqb n 0 z, e) h

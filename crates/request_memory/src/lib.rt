@@ -1,4 +1,5 @@
 // Tmget and Tmput, over a fit record and its table as arrays.
+use memory::Access;
 use memory::Place;
 use rules::Answer;
 use step_effect::Change;
@@ -118,7 +119,8 @@ pub fn mget<'a>(t: Target, s: Scan, mem: &'a [u8], regs: &'a [u8], addr: u32, n:
     if n == 0 {
         return rmget([0; 9]);
     }
-    let place = memory_place::place_of(t.base, t.size, addr, n);
+    let protected = t.protected;
+    let place = memory_place::named_by(Access::Read, protected, t.base, t.size, addr, n);
     let block = block_of(t);
     let part = memory_place::stretch(block_part(regs, block), mem, t.base, addr, n);
     match place {
@@ -128,6 +130,7 @@ pub fn mget<'a>(t: Target, s: Scan, mem: &'a [u8], regs: &'a [u8], addr: u32, n:
             let plain = s.plain;
             rmget(memory_read::read(part, &sites, &plain, addr - t.base))
         }
+        Place::Protected => rerr(Reason::Unsup),
         Place::Nowhere => rerr(Reason::Inval),
     }
 }
@@ -205,7 +208,8 @@ pub fn mput(
     }
     let bytes = [d.b0, d.b1, d.b2, d.b3];
     let count = n as usize;
-    let place = memory_place::place_of(t.base, t.size, addr, n);
+    let protected = t.protected;
+    let place = memory_place::named_by(Access::Write, protected, t.base, t.size, addr, n);
     match place {
         Place::Registers => {
             Effect::answering(
@@ -220,6 +224,7 @@ pub fn mput(
             let plain = w.plain;
             Effect::of(common::ACCEPTED, Answer::Nothing, change, plain, rmput)
         }
+        Place::Protected => Effect::answering(Answer::Nothing, Change::Same, rerr(Reason::Unsup)),
         Place::Nowhere => Effect::answering(Answer::Nothing, Change::Same, rerr(Reason::Inval)),
     }
 }

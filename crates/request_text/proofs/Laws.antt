@@ -24,7 +24,8 @@ use Rattle.rules.specs.Breakpoint.{sites, plains}
 use Rattle.rules.specs.Outcome.{World, world, Outcome, refused}
 use Rattle.rules.specs.Record.{indexOf, isStopped}
 use Rattle.rules.specs.Text.{Response as Ruled, completed, failedWith, efault, einval, esrch, ebusy, textKind}
-use Rattle.rules.specs.Text.{registerAt, registerWritten}
+use Rattle.rules.specs.Text.{eacces, onWritable, registerAt, registerWritten}
+use Rattle.memory.specs.Place.{hasProtected}
 use Rattle.rules.specs.Text.{onFetched, onWord, onRegister, onPid, responseBy, textReplied, textBy, textRequest}
 use Rattle.rules.specs.declared.TextKind.{TextKind}
 use Rattle.rules.specs.declared.TextKind.the-variants.{ReadWord, WriteWord, ReadRegister, WriteRegister, Unlisted}
@@ -64,6 +65,17 @@ module _ (w : World) (a : ℕ) (f : ℕ → Ruled) where
     pub word-found : (v : ℕ) → x ≡ Word v → f v ≡ onWord house w a f
     unfolding onWord onFetched
     word-found v k = rw (eq-eqb (a % 4) 0 h, its-word, k)
+
+-- a word that touches a protected byte is not written
+module _ (w : World) (a : ℕ) (r : Ruled) where
+  pub writable-no : hasProtected (w .target .protected) (a - w .target .base) 4 ≡ true
+      → failedWith eacces w ≡ onWritable w a r
+  unfolding onWritable
+  writable-no e = rw e
+
+  pub writable-yes : hasProtected (w .target .protected) (a - w .target .base) 4 ≡ false → r ≡ onWritable w a r
+  unfolding onWritable
+  writable-yes e = rw e
 
 -- a word that is fetched lies in the window
 pub fetched-inside : (ss ps mem : List ℕ) (base a v : ℕ) → fetchOf house ss ps mem base a ≡ Word v

@@ -22,7 +22,7 @@ ghost use Rattle.memory.specs.Head.{house};
 ghost use Rattle.rules.specs.Outcome.{world};
 ghost use Rattle.rules.specs.Request.{windowWritten};
 ghost use Rattle.rules.specs.Text.{completed as completedWith, failedWith, textKind, onWord, onRegister, registerAt};
-ghost use Rattle.rules.specs.Text.{registerWritten, responseBy, textRequest};
+ghost use Rattle.rules.specs.Text.{onWritable, registerWritten, responseBy, textRequest};
 ghost use Rattle.step_effect.specs.Effect.{effectOutcome};
 ghost use Rattle.step_effect.specs.Ready.{Blocks, Lent, Arrays};
 ghost use Rattle.step_effect.specs.declared.Change.the-variants as change;
@@ -32,6 +32,8 @@ ghost use Rattle.text_packet.specs.Packet.{isPacket};
 
 // The errors, by their UNIX names.
 const ESRCH: u32 = 3;
+
+const EACCES: u32 = 13;
 
 const EFAULT: u32 = 14;
 
@@ -102,7 +104,9 @@ fn word(t: Target, s: Scan, mem: &mut [u8], p: Packet, writes: bool) -> Response
         → let w = world (viewOf t words) (now (mem .entry)) regs in
         seenResponse t r words (now (mem .exit)) regs
         ≡ onWord house w (p .third)
-        (λ v. completedWith v (cond writes (windowWritten house w (p .third) (lowFirst 4 (p .fourth))) w))) ⌝ }
+        (λ v. cond writes
+        (onWritable w (p .third) (completedWith v (windowWritten house w (p .third) (lowFirst 4 (p .fourth)))))
+        (completedWith v w))) ⌝ }
 {
     if p.third % 4 != 0 {
         return kept(FAILED, EINVAL);
@@ -115,6 +119,10 @@ fn word(t: Target, s: Scan, mem: &mut [u8], p: Packet, writes: bool) -> Response
     };
     if !writes {
         return kept(0, v);
+    }
+    let protected = t.protected;
+    if memory_place::has_protected(protected, p.third - t.base, 4) {
+        return kept(FAILED, EACCES);
     }
     let bytes = low_first(p.fourth);
     let w = request_memory::put_window(t, s, mem, p.third, &bytes);

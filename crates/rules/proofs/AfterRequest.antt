@@ -129,7 +129,7 @@ module _ {head : Head} (s : Setup) (b : Book) (t : Target) (mem regs : List ℕ)
       → Follows head s (bookRequest s b p) (o .target) (o .mem)
   unfolding bookRequest bookServed bookCondbreak isStopped
   after-left (got d h) = v
-  after-left (put h p) = after-put _ _ _ h p
+  after-left (put h p o) = after-put _ _ _ h p
   after-left (aside r h) = after-aside _ _ _ h
   after-left (current {pid = pid} h) = move-current s b t mem v 1 pid
   after-left (told x) = v
@@ -139,7 +139,7 @@ module _ {head : Head} (s : Setup) (b : Book) (t : Target) (mem regs : List ℕ)
   after-left (started h e) = after-start _ ready h refl
   after-left (cleared h e) = after-start _ _ h e
   after-left (begins n x y z) = rw n (after-begun _)
-  after-left (plants n b′ h x y) = rw (n, b′) (after-planted _ h)
+  after-left (plants n b′ h x z y) = rw (n, b′) (after-planted _ h)
   after-left (removes n b′ d x y) = rw (n, b′, d) (after-deleted _ x y)
   after-left (adds n b′ d h r) = rw (n, b′, d) (after-joined _)
 

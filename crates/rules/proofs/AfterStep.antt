@@ -75,7 +75,7 @@ module _ {head : Head} (s : Setup) (b : Book) (t : Target) (mem regs : List ℕ)
   unfolding textReplied fed isCompleted bookText bookWord
   after-text bytes reply p r q (refusing errno) = v
   after-text bytes reply p r q (word-read x k e) = rw (q, k) v
-  after-text bytes reply p r q (word-written x k e) =
+  after-text bytes reply p r q (word-written x k e f) =
       rw (q, k, ap (λ (n : ℕ). p .third - n) (sym (v .base)))
       (move-written s b t mem v (a .good) regs (p .third) (head .bytes (p .fourth)))
   after-text bytes reply p r q (register-read x k) = rw (q, k) v

@@ -17,7 +17,7 @@ use Rattle.target.specs.declared.Process.{Process}
 use Rattle.rules.specs.Record.{isStopped}
 use Rattle.rules.specs.Breakpoint.{sites, plains}
 use Rattle.rules.specs.Book.{Breakpoint, Pending, Book}
-use Rattle.rules.specs.Step.{Setup}
+use Rattle.rules.specs.Step.{Setup, stretchOf}
 use Rattle.rules.proofs.Facts.{UsedIn, Good}
 
 -- ---- breakpoints
@@ -61,6 +61,7 @@ Halted n ps l = (i : ℕ) → i < n → isStopped (processAt ps i) ≡ among l (
 pub record Follows (head : Head) (s : Setup) (b : Book) (t : Target) (mem : List ℕ) : Type 0 where
   pub base : t .base ≡ s .base
   pub size : t .size ≡ s .size
+  pub protected : t .protected ≡ stretchOf (s .base) (s .from) (s .to)
   pub count : t .count ≡ s .count
   pub pids : take (t .count) (pidsOf (t .processes)) ≡ take (s .count) (s .pids)
   pub plain : plainOf (width head) (sites t) (plains t) mem ≡ b .plain

@@ -14,7 +14,7 @@ use Rattle.wire.specs.Message.{isOp, bytesOf, typeOf, fieldsOf, bytes4, bytes9}
 use Rattle.wire_text.specs.Text.{digitValue, reasonName, hexDigit, hexBytes, stateNames, stateText, addressText}
 use Rattle.request_parse.specs.Request.{counted, unused, lettered, parsedBy, parseOf}
 use Rattle.memory.specs.Overlay.{siteOver, slotOf, covered, plainAt, plainOf, laidAt, laidOver}
-use Rattle.memory.specs.Place.{placeOf, isSite}
+use Rattle.memory.specs.Place.{placeOf, isProtected, hasProtected, forbids, guarded, namedBy, isSite}
 use Rattle.memory.specs.Write.{bytesAt, plainRead, writtenAt, overwritten, memAfter, offsetOf, holdsPlain, plainAfter}
 use Rattle.condition.specs.Add.{roomBy, roomFor, withElement}
 use Rattle.condition.specs.Depth.{depthAfter, depthFrom, depthOf, wellBegun, wellFormed}
@@ -22,6 +22,7 @@ use Rattle.condition.specs.Evaluate.{joinOf, isOutside, wordOf, escapes, stackA
 use Rattle.target_fit.specs.Arrays.{idOf, siteOf, idsOf, sitesOf, plainsOf}
 use Rattle.target_fit.specs.Fit.{windowFit, pidFit, processesFit, apart, siteFit, entryFit, slotFit, entriesFit}
 use Rattle.pool_rows.specs.Rows.{total}
+use Rattle.target_fit.specs.Fit.{boundsFit, stretchFit, siteOff, protectedFit}
 use Rattle.target_fit.specs.Fit.{markFit, marksFit, placesOf, entriesHeld, draftHeld, heldOf}
 use Rattle.target_fit.specs.Fit.{processOf, currentFit, entryOf, draftTest, draftFit, fitOf}
 use Rattle.target.specs.Free.{isFree, firstFree}
@@ -39,7 +40,8 @@ use Rattle.rules.specs.Event.{onListed, holds, trapped, trap, schedule, 
 use Rattle.rules.specs.Step.{setupBy, beginning, setupTarget, setupOf, sized, checked, requestOf, trapOf}
 use Rattle.rules.specs.Step.{scheduleOf, stateOf, restartOf}
 use Rattle.rules.specs.Step.{stepOf, textStepOf}
-use Rattle.rules.specs.Text.{textRequest, textBy, textReplied, textKind, responseBy, onPid, onWord, onFetched}
+use Rattle.rules.specs.Text.{textRequest, textBy, textReplied, textKind, responseBy, onPid, onWord, onWritable}
+use Rattle.rules.specs.Text.{onFetched}
 use Rattle.rules.specs.Text.{onRegister, registerAt, registerWritten, isCompleted}
 use Rattle.rules.specs.Book.{bookText, bookWord, wordReplyBy, isWord}
 use Rattle.text_packet.specs.Packet.{isPacket, textOf, numberText, digitsOf, leadingZeros}
@@ -56,7 +58,7 @@ use Rattle.rules.specs.Stubs.{kindNumber, changing, rerrAlways, zerosAlw
 use Rattle.rules.specs.Stubs.{plantsFirstOnly, plantsNothing}
 use Rattle.rules.specs.Stubs.{removesAtStart, answersNothing}
 use Rattle.rules.specs.Stubs.{readsReal, findsNoSite, neverStops, acceptsStates, answersStates, zeroRestart}
-use Rattle.rules.specs.Stubs.{keepsTraps, storesNoWord, alwaysUnfit}
+use Rattle.rules.specs.Stubs.{keepsTraps, storesNoWord, protectsNothing, alwaysUnfit}
 use Rattle.rules.specs.Stubs.{passed, SaysAfter, RealAfter}
 
 unfoldable pub steps-compute : ℕ
@@ -70,16 +72,16 @@ unfolding shownBy after shown shownWith answerBytes
     withTable withProcesses withCurrent withDraft withEntries withState setState isStopped saved pcOf blockAt stopWith
     error repliedWith answered refused
     fitOf windowFit processesFit pidFit entriesFit slotFit entryFit siteFit apart marksFit markFit currentFit processOf
-    draftFit draftTest
+    draftFit draftTest boundsFit stretchFit siteOff protectedFit
     entryOf idOf siteOf idsOf sitesOf plainsOf isFree firstFree
     roomBy roomFor withElement heldOf entriesHeld placesOf draftHeld total depthAfter depthFrom depthOf wellBegun
     wellFormed
     joinOf isOutside wordOf escapes stackAfter evalFrom evaluateOf fetchOf
-    placeOf isSite bytesAt plainRead writtenAt overwritten memAfter offsetOf holdsPlain plainAfter
+    placeOf isProtected hasProtected forbids guarded namedBy isSite bytesAt plainRead writtenAt overwritten memAfter offsetOf holdsPlain plainAfter
     siteOver slotOf covered plainAt plainOf laidAt laidOver
     parseOf parsedBy counted unused lettered data4 kinds kindOf
     isOp bytesOf typeOf fieldsOf bytes4 bytes9 reasonName hexDigit hexBytes stateNames stateText addressText
-    textStepOf textRequest textBy textReplied textKind responseBy onPid onWord onFetched onRegister registerAt
+    textStepOf textRequest textBy textReplied textKind responseBy onPid onWord onWritable onFetched onRegister registerAt
     registerWritten readOf candidateOf hexValue afterBlank isPacket textOf numberText digitsOf leadingZeros filledWith
     digitValue
     lowFirst ofLowFirst highFirst ofHighFirst wordAt every firstOf among byKeys sameList allZero tab codes padded
@@ -94,5 +96,5 @@ unfolding steps-compute SaysAfter RealAfter Says passed opened fed isAccepted bo
     realBy sitesBy trapBy trapNumber answerAmong answerOf passBy startBy fetchBy readBy
     kindNumber changing rerrAlways zerosAlways requestLeaving storesNothing plantsFirstOnly plantsNothing
     readsReal removesAtStart answersNothing findsNoSite neverStops acceptsStates answersStates zeroRestart keepsTraps
-    alwaysUnfit
+    protectsNothing alwaysUnfit
 claim-computes = 0

@@ -192,7 +192,7 @@ module _ {head : Head} (t : Target) (mem regs : List ℕ) (g : Good head t mem) 
       → Counts (v .target .table) (countRequest y p)
   unfolding countRequest countServed countCondbreak withCurrent setState withProcesses
   counts-left (got n h) = c
-  counts-left (put h p) = counts-written _ _
+  counts-left (put h p o) = counts-written _ _
   counts-left (aside r h) = c
   counts-left (current h) = c
   counts-left (told s) = c
@@ -202,7 +202,7 @@ module _ {head : Head} (t : Target) (mem regs : List ℕ) (g : Good head t mem) 
   counts-left (started h e) = c
   counts-left (cleared h e) = c
   counts-left (begins n s e f) = rw n (counts-begun _)
-  counts-left (plants n b h s f) = rw (n, b) (counts-planted h _)
+  counts-left (plants n b h s o f) = rw (n, b) (counts-planted h _)
   counts-left (removes n b e l h) = rw (n, b, e) (counts-removed _ l h)
   counts-left (adds n b e h r) = rw (n, b, e) (counts-joined h _)
 
@@ -244,7 +244,7 @@ counts-text : {head : Head} (t : Target) (mem regs : List ℕ) → Good head t m
     → (p : Packet) (r : Response) → TextCase head (world t mem regs) p r → Counts (r .after .target .table) y
 counts-text t mem regs g y c p r (refusing errno) = c
 counts-text t mem regs g y c p r (word-read v k e) = c
-counts-text t mem regs g y c p r (word-written v k e) = counts-written t mem regs g y c _ _
+counts-text t mem regs g y c p r (word-written v k e f) = counts-written t mem regs g y c _ _
 counts-text t mem regs g y c p r (register-read v k) = c
 counts-text t mem regs g y c p r (register-written v area k) = c
 

@@ -5,11 +5,13 @@ use Prim.Native.Nat.{ℕ, _+_, _-_, _%_, _≤_, _<_}
 use mathlib.Core.List.{List}
 use lib.ListN.{length, getD}
 use Rattle.condition.specs.Depth.{wellFormed}
-use Rattle.target_fit.specs.Fit.{fitOf, processAt, entryAt, markFit, currentFit, draftFit, heldOf}
+use Rattle.target_fit.specs.Fit.{fitOf, processAt, entryAt, markFit, currentFit, draftFit, heldOf, stretchFit}
 use Rattle.memory.specs.Head.{Head, width, Lawful}
+use Rattle.memory.specs.Place.{hasProtected}
 use Rattle.target.specs.Limits.{plainRoom}
 use Rattle.target.specs.Free.{isFree}
 use Rattle.target.specs.View.{Entry, Target}
+use Rattle.target.specs.declared.Stretch.{Stretch}
 
 -- ---- the shape: lengths of arrays, and ids below 256, which the types of the code give
 
@@ -45,6 +47,10 @@ pub record UsedFacts (h : Head) (t : Target) (mem : List ℕ) (e : Entry) : Type
   pub whole : length (e .elements) ≡ e .count
   pub formed : wellFormed (e .elements) ≡ true
 
+-- no used entry has a protected byte under its trap of w bytes
+abbrev pub Off : ℕ → ℕ → Stretch → List Entry → Type 0
+Off w base p es = (k : ℕ) → UsedIn es k → hasProtected p (entryAt es k .site - base) w ≡ false
+
 -- ---- the record
 
 pub record Facts (h : Head) (t : Target) (mem : List ℕ) : Type 0 where
@@ -54,6 +60,8 @@ pub record Facts (h : Head) (t : Target) (mem : List ℕ) : Type 0 where
   pub baseFour : t .base % 4 ≡ 0
   pub baseLow : 4096 ≤ t .base
   pub end : t .base + t .size ≤ 4294967296
+  pub stretch : stretchFit (t .base) (t .size) (t .protected) ≡ true
+  pub off : Off (width h) (t .base) (t .protected) (t .table .entries)
   pub some : 1 ≤ t .count
   pub few : t .count ≤ 4
   pub pids : (i : ℕ) → i < t .count → 0 < processAt (t .processes) i .pid

@@ -14,10 +14,10 @@ pub use Rattle.common.proofs.Same.{parts}
 use Rattle.common.proofs.Same.{and-left, and-right}
 use Rattle.target_fit.proofs.Slots.{Roomy, all-plains as plains-length, plain-byte}
 use Rattle.target_fit.specs.Fit.{fitOf, windowFit, processAt, pidFit, processesFit, entryAt, apart, siteFit, entryFit}
-use Rattle.target_fit.specs.Fit.{slotFit, entriesFit}
+use Rattle.target_fit.specs.Fit.{slotFit, entriesFit, stretchFit, siteOff, protectedFit}
 use Rattle.target_fit.specs.Fit.{marksFit, currentFit, draftFit, heldOf}
 use Rattle.memory.specs.Head.{Head, width}
-use Rattle.memory.specs.Place.{isSite}
+use Rattle.memory.specs.Place.{isSite, hasProtected}
 use Rattle.memory.specs.Overlay.{freeSite, siteOver, slotOf, covered}
 use Rattle.common.proofs.Cases.{on-test, on-same}
 use Rattle.memory.proofs.Site.{site-place}
@@ -29,7 +29,7 @@ use Rattle.target.specs.Free.{isFree}
 use Rattle.target.specs.View.{Entry, Target}
 use Rattle.target.specs.declared.Process.{Process}
 use Rattle.rules.specs.Breakpoint.{sites, plains}
-use Rattle.rules.proofs.Facts.{Shaped, Differ, Used, UsedFacts, Facts, Good}
+use Rattle.rules.proofs.Facts.{Shaped, Differ, Used, UsedFacts, Off, Facts, Good}
 use Rattle.rules.proofs.Slots as slots
 use Rattle.rules.proofs.Slots.{length-sites}
 
@@ -43,10 +43,11 @@ differ P key apart i j p q e =
     (λ l. absurd (apart i j (ltb-true i j l) p q e))
     (λ l. absurd (apart j i (omega (arith, ltb-false i j l)) q p (sym e))))
 
--- ---- the seven tests of a record
+-- ---- the eight tests of a record
 
 pub record Tests (head : Head) (t : Target) (mem : List ℕ) : Type 0 where
   pub window : windowFit (t .base) (t .size) ≡ true
+  pub protected : protectedFit (width head) (t .base) (t .size) (t .protected) (t .table .entries) ≡ true
   pub processes : processesFit (t .processes) (t .count) ≡ true
   pub entries : entriesFit head (t .base) mem (t .table .entries) ≡ true
   pub marks : marksFit (t .processes) (t .count) ≡ true
@@ -59,19 +60,20 @@ module _ {head : Head} (t : Target) (mem : List ℕ) where
   pub tests-of : fitOf head t mem ≡ true → Tests head t mem
   unfolding fitOf
   tests-of e = record {
-    window = search (and-left, and-right) depth 7;
-    processes = search (and-left, and-right) depth 7;
-    entries = search (and-left, and-right) depth 7;
-    marks = search (and-left, and-right) depth 7;
-    current = search (and-left, and-right) depth 7;
-    draft = search (and-left, and-right) depth 7;
-    held = search (and-left, and-right) depth 7;
+    window = search (and-left, and-right) depth 8;
+    protected = search (and-left, and-right) depth 8;
+    processes = search (and-left, and-right) depth 8;
+    entries = search (and-left, and-right) depth 8;
+    marks = search (and-left, and-right) depth 8;
+    current = search (and-left, and-right) depth 8;
+    draft = search (and-left, and-right) depth 8;
+    held = search (and-left, and-right) depth 8;
   }
 
   -- one that passes each is fit
   pub fit-by : Tests head t mem → fitOf head t mem ≡ true
   unfolding fitOf
-  fit-by c = rw (c .window, c .processes, c .entries, c .marks, c .current, c .draft, c .held)
+  fit-by c = rw (c .window, c .protected, c .processes, c .entries, c .marks, c .current, c .draft, c .held)
 
 -- ---- processes
 
@@ -192,6 +194,29 @@ module _ (head : Head) (t : Target) (mem : List ℕ) where
     sites-differ = differ (Used t) (λ k. entryAt (t .table .entries) k .site)
         (λ j k l u v. apart-differ _ _ (slots-apart j k l (v .0)) (u .1) (v .1) .1)
 
+  stretch-of : protectedFit (width head) (t .base) (t .size) (t .protected) (t .table .entries) ≡ true
+      → stretchFit (t .base) (t .size) (t .protected) ≡ true
+  unfolding protectedFit
+  stretch-of e = search parts
+
+  -- a used entry of a record whose stretch is fit has no protected byte
+  off-of : protectedFit (width head) (t .base) (t .size) (t .protected) (t .table .entries) ≡ true
+      → Off (width head) (t .base) (t .protected) (t .table .entries)
+  unfolding protectedFit siteOff
+  off-of e k (l, u) =
+      let a : every 8 (λ j. siteOff (width head) (t .base) (t .protected) (entryAt (t .table .entries) j)) ≡ true =
+      search parts in
+      let e = entryAt (t .table .entries) k in
+      let b : siteOff (width head) (t .base) (t .protected) e ≡ true = every-at 8 _ a k l in
+      not-true (hasProtected (t .protected) (e .site - t .base) (width head)) (rw u at b)
+
+  pub protected-fit : stretchFit (t .base) (t .size) (t .protected) ≡ true
+      → Off (width head) (t .base) (t .protected) (t .table .entries)
+      → protectedFit (width head) (t .base) (t .size) (t .protected) (t .table .entries) ≡ true
+  unfolding protectedFit siteOff
+  protected-fit s off = rw (s) (every-all 8 _ (λ k l.
+      on-test (isFree (entryAt (t .table .entries) k)) (λ p. rw p) (λ p. rw (p, off k (l, p)))))
+
   -- the tests give the facts
   pub facts-by : Tests head t mem → Facts head t mem
   unfolding windowFit processesFit marksFit
@@ -205,6 +230,8 @@ module _ (head : Head) (t : Target) (mem : List ℕ) where
         baseFour = search parts depth 8;
         baseLow = search parts depth 8;
         end = search parts depth 8;
+        stretch = stretch-of (c .protected);
+        off = off-of (c .protected);
         some = search parts depth 8;
         few = search parts depth 8;
         pids = pids-some (t .processes) (t .count) p;
@@ -242,6 +269,7 @@ module _ (head : Head) (t : Target) (mem : List ℕ) where
       le-leb _ _ (f .baseLow),
       le-leb _ _ (f .end),
     );
+    protected = protected-fit (f .stretch) (f .off);
     processes = rw (
       le-leb _ _ (f .some),
       le-leb _ _ (f .few),

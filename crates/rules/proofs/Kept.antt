@@ -2,11 +2,12 @@
 use mathlib.Core.Path.{_≡_, _∙_}
 use mathlib.Core.Bool.{Bool, true, false, cond}
 use mathlib.Core.List.{List}
-use Prim.Native.Nat.{ℕ}
+use Prim.Native.Nat.{ℕ, _+_, _-_, _≤_}
 use native.Mathlib.Omega.{arith}
 use borrow.Author.Tests.{eqb-false, lt-ltb}
 use lib.ListN.{set, length-set}
-use Rattle.target_fit.specs.Fit.{currentFit}
+use Rattle.target_fit.specs.Fit.{currentFit, boundsFit, stretchFit}
+use Rattle.common.proofs.Same.{parts}
 use Rattle.memory.specs.Head.{Head, width, Lawful}
 use Rattle.memory.specs.Overlay.{covered}
 use Rattle.memory.proofs.Bytes.{length-plain}
@@ -20,7 +21,7 @@ use Rattle.rules.specs.Record.{ready, isStopped}
 use Rattle.rules.specs.Breakpoint.{sites}
 use Rattle.rules.specs.Condition.{dropped}
 use Rattle.rules.specs.Event.{restart}
-use Rattle.rules.specs.Step.{setupTarget, sized, Step, stepOf}
+use Rattle.rules.specs.Step.{stretchOf, setupTarget, sized, Step, stepOf}
 use Rattle.rules.specs.Text.{Response, textReplied}
 use Rattle.text_packet.specs.declared.Packet.{Packet}
 use Rattle.rules.proofs.Texts.{TextCase, refusing, word-read, word-written, register-read, register-written}
@@ -55,7 +56,7 @@ module _ {head : Head} (w : World) (g : GoodWorld head w) where
   good-left : {p : Parsed} {x : Answer} {q : Message} {v : World} → RequestCase head w p x q v → GoodWorld head v
   unfolding currentFit isStopped
   good-left (got d h) = g
-  good-left (put h p) = good-window w g _ _
+  good-left (put h p o) = good-window w g _ _
   good-left (aside regs h) = g
   good-left (current h) = good-current (w .target) (w .mem) g 1 _ (lt-ltb _ _ h)
   good-left (told s) = g
@@ -65,7 +66,7 @@ module _ {head : Head} (w : World) (g : GoodWorld head w) where
   good-left (started h e) = good-state w g _ ready 0 h (mark-none ready)
   good-left (cleared h e) = good-state w g _ _ 0 h (mark-none _)
   good-left (begins n s e f) = good-begun w g _ s e f
-  good-left (plants n b h s f) = good-planted w g _ h s f
+  good-left (plants n b h s o f) = good-planted w g _ h s o f
   good-left (removes n b d l h) = good-removed w g _ (used-id _ _ (g .shaped .entries) (omega arith) h)
   good-left (adds n b d h r) = good-joined w g _ h r
 
@@ -89,8 +90,9 @@ module _ {head : Head} (w : World) (g : GoodWorld head w) where
       good-of _ _ (record {
         lawful = g .lawful;
         window = c .window;
+        stretch = c .stretch;
         processes = restart-parts (t .processes) (t .count) (t .selected) (t .current) (c .processes);
-        table = fresh-parts (g .lawful) (t .base) (t .size) _ (length-plain (width head) _ _ (w .mem) ∙ g .sized);
+        table = fresh-parts (g .lawful) (t .base) (t .size) _ _ (length-plain (width head) _ _ (w .mem) ∙ g .sized);
       })
 
   good-unless : (d : Bool) → GoodWorld head (cond d (dropped w) w)
@@ -107,7 +109,7 @@ good-text : {head : Head} (w : World) → GoodWorld head w → (p : Packet) (r :
     → GoodWorld head (r .after)
 good-text w g p r (refusing errno) = g
 good-text w g p r (word-read v k e) = g
-good-text w g p r (word-written v k e) = good-window w g _ _
+good-text w g p r (word-written v k e f) = good-window w g _ _
 good-text w g p r (register-read v k) = g
 good-text w g p r (register-written v regs k) = g
 
@@ -132,19 +134,36 @@ pub never-three : {head : Head} (t : Target) (mem : List ℕ) (e : Step) → Goo
     → stepOf head t mem e .number ≡ 3 → ⊥
 never-three t mem e g = fine-step t mem e g .notThree
 
+-- the stretch of an accepted setup keeps its bounds
+stretch-taken : (base size from to : ℕ) → boundsFit base size from to ≡ true
+    → stretchFit base size (stretchOf base from to) ≡ true
+unfolding stretchFit boundsFit
+stretch-taken base size from to e =
+    let low : base ≤ from = search parts depth 7 in
+    let up : from ≤ to = search parts depth 7 in
+    let f : base + (from - base) ≡ from = omega arith in
+    let g : from + (to - from) ≡ to = omega arith in
+    rw (f, g) e
+
 -- an accepted setup makes a good record
 good-taken : {head : Head} → Lawful head
-    → {base size : ℕ} {pids addresses : List ℕ} {count : ℕ} {mem regs : List ℕ} {o : Outcome}
-    → SetUp base size pids addresses count mem regs o → o .number ≡ 0 → Good head (o .after .target) mem
+    → {base size from to : ℕ} {pids addresses : List ℕ} {count : ℕ} {mem regs : List ℕ} {o : Outcome}
+    → SetUp base size from to pids addresses count mem regs o → o .number ≡ 0 → Good head (o .after .target) mem
 unfolding setupTarget answered
-good-taken law (taken e f z) n =
-    good-of _ _ (record { lawful = law; window = e; processes = setup-parts _ _ _ f; table = fresh-parts law _ _ _ z })
+good-taken law (taken e g f z) n =
+    good-of _ _ (record {
+      lawful = law;
+      window = e;
+      stretch = stretch-taken _ _ _ _ g;
+      processes = setup-parts _ _ _ f;
+      table = fresh-parts law _ _ _ _ z;
+    })
 good-taken law (emptied n h) z = absurd (eqb-false n 0 h z)
 
 pub good-setup : (head : Head) → Lawful head → (s : Setup) → setupBy s .number ≡ 0
     → Good head (setupBy s .after .target) (s .mem)
 unfolding setupBy
-good-setup head law s = good-taken law (set-up (s .base) (s .size) (s .pids) (s .addresses) (s .count) (s .mem)
+good-setup head law s = good-taken law (set-up (s .base) (s .size) (s .from) (s .to) (s .pids) (s .addresses) (s .count) (s .mem)
     (s .regs))
 
 -- an outside change where no trap lies leaves a record good
@@ -157,12 +176,14 @@ good-change {head} t mem i byte g n =
     good-of t (set mem i byte) (record {
       lawful = o .lawful;
       window = o .window;
+      stretch = o .stretch;
       processes = o .processes;
       table = record {
         eight = u .eight;
         entry = u .entry;
         draft = u .draft;
         rows = u .rows;
+        off = u .off;
         planted = planted-set (head .trap) (sites t) mem i byte n (u .planted);
         sized = length-set mem i byte ∙ u .sized;
         held = u .held;

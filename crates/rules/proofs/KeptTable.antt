@@ -12,6 +12,8 @@ use Rattle.target_fit.specs.Arrays.{siteOf, sitesOf}
 use Rattle.pool_rows.specs.Rows.{total}
 use Rattle.target_fit.specs.Fit.{entryAt, placesOf, entriesHeld, draftHeld, heldOf}
 use Rattle.memory.specs.Head.{Head, width, Lawful}
+use Rattle.memory.specs.Place.{hasProtected}
+use Rattle.target.specs.declared.Stretch.{Stretch}
 use Rattle.memory.specs.Overlay.{freeSite, laidOver}
 use Rattle.memory.specs.Write.{memAfter, plainAfter}
 use Rattle.memory.proofs.Lawful.{width-fits, width-free}
@@ -30,7 +32,7 @@ use Rattle.rules.specs.Request.{withPlains}
 use Rattle.rules.proofs.Slots.{site-used, sites-set, length-with, with-at, sites-with}
 use Rattle.rules.proofs.FitFacts.{eight-sites, slot-used, slot-free, slot-only, all-plains}
 use Rattle.rules.proofs.Places.{held-set, held-with, places-used, places-free, closed-held}
-use Rattle.rules.proofs.Rows.{Row, stored-at, rows-set, rows-with, rows-fresh}
+use Rattle.rules.proofs.Rows.{Row, stored-at, rows-set, rows-with, rows-fresh, off-set, off-with, off-fresh}
 use Rattle.rules.proofs.Parts.{DraftParts, TableParts, parts-of, good-table}
 use Rattle.rules.proofs.KeptDraft.{closed-draft, freed-draft, with-draft}
 
@@ -40,14 +42,15 @@ fresh-shaped = record { plain = refl; id = omega arith }
 
 -- ---- a fresh table, over any memory
 
-pub fresh-parts : {head : Head} → Lawful head → (base n : ℕ) (mem : List ℕ) → length mem ≡ n
-    → TableParts head base n freshTable mem
+pub fresh-parts : {head : Head} → Lawful head → (base n : ℕ) (p : Stretch) (mem : List ℕ) → length mem ≡ n
+    → TableParts head base n p freshTable mem
 unfolding sitesOf siteOf isFree heldOf entriesHeld placesOf draftHeld total
-fresh-parts {head} law base n mem size = record {
+fresh-parts {head} law base n p mem size = record {
   eight = refl;
   entry = λ k h. rw (getD-replicate 8 k freshEntry noEntry h) fresh-shaped;
   draft = closed-draft (freshTable .entries);
   rows = rows-fresh (width head) base n;
+  off = off-fresh (width head) base p;
   planted = no-traps-planted (head .trap) (replicate 8 freeSite) mem (free-slots (width head) (law .least) 8);
   sized = size;
   held = omega arith;
@@ -58,7 +61,7 @@ module _ {head : Head} (t : Target) (mem : List ℕ) (g : Good head t mem) where
   es = t .table .entries
 
   -- the parts of the table as it was
-  old : TableParts head (t .base) (t .size) (t .table) mem
+  old : TableParts head (t .base) (t .size) (t .protected) (t .table) mem
   old = parts-of t mem g .table
 
   -- ---- the condition in hand
@@ -71,6 +74,7 @@ module _ {head : Head} (t : Target) (mem : List ℕ) (g : Good head t mem) where
     entry = old .entry;
     draft = p;
     rows = old .rows;
+    off = old .off;
     planted = old .planted;
     sized = old .sized;
     held = few;
@@ -87,17 +91,19 @@ module _ {head : Head} (t : Target) (mem : List ℕ) (g : Good head t mem) where
       → isFree e ≡ false
       → e .count ≡ draftHeld (t .table .draft)
       → Row (width head) (t .base) (t .size) e
+      → hasProtected (t .protected) (e .site - t .base) (width head) ≡ false
       → ((j : ℕ) → Used t j → entryAt (t .table .entries) j .id ≡ e .id → ⊥)
       → ((j : ℕ) → Used t j → entryAt (t .table .entries) j .site ≡ e .site → ⊥)
       → Good head (withTable t (record { entries = set (t .table .entries) k e; draft = closedDraft }))
       (laidOver (head .trap) ((e .site - t .base) ∷ []) mem)
   unfolding heldOf
-  good-made k e h free shape used size row id site = good-table t mem g _ _ (record {
+  good-made k e h free shape used size row off id site = good-table t mem g _ _ (record {
     eight = length-set es k e ∙ old .eight;
     entry = stored k e h shape;
     draft = closed-draft _;
     rows = rows-set es (old .eight) k e h (width head) (t .base) (t .size) (old .rows)
         (λ u. row) (λ u j v n. id j v) (λ u j v n. site j v);
+    off = off-set es (old .eight) k e h (width head) (t .base) (t .protected) (old .off) (λ u. off);
     planted = rw (sites-set (t .base) es k e, site-used (t .base) e used)
         (planted-more (head .trap) (sites t) mem k (e .site - t .base)
         (λ i q. width-free (g .lawful) i (q ∙ slot-free t mem g k h free)) (old .planted));
@@ -124,6 +130,8 @@ module _ {head : Head} (t : Target) (mem : List ℕ) (g : Good head t mem) where
     draft = freed-draft es (old .eight) (t .table .draft) (old .draft) k h;
     rows = rows-set es (old .eight) k freshEntry h (width head) (t .base) (t .size) (old .rows)
         (λ e. true-or-false (sym e)) (λ e. true-or-false (sym e)) (λ e. true-or-false (sym e));
+    off = off-set es (old .eight) k freshEntry h (width head) (t .base) (t .protected) (old .off)
+        (λ e. true-or-false (sym e));
     planted = rw (sites-set (t .base) es k freshEntry) (rw (slot-used t mem g k (h, u)) at
         (removed-planted (width head) (sites t) mem (take (width head) (entryAt es k .plain)) k freeSite
         (length-take-le (width head) (entryAt es k .plain) (omega (
@@ -157,6 +165,7 @@ module _ {head : Head} (t : Target) (mem : List ℕ) (g : Good head t mem) where
         (record { plain = simp (length-take, length-drop) (omega arith); id = o .id });
     draft = with-draft es (old .eight) (t .table .draft) (old .draft) _;
     rows = rows-with es (old .eight) _ (width head) (t .base) (t .size) (old .rows);
+    off = off-with es (old .eight) _ (width head) (t .base) (t .protected) (old .off);
     planted = rw (sites-with (t .base) es) (planted-written (head .trap) (sites t) mem at bytes (old .planted));
     sized = length-mem-after (width head) (sites t) mem at bytes ∙ old .sized;
     held = omega (arith, held-with es (plainAfter (width head) (sites t) (plains t) at bytes), old .held);

@@ -16,7 +16,7 @@ use Rattle.memory.specs.Head.{Head, width}
 use Rattle.memory.specs.Write.{plainRead}
 use Rattle.common.proofs.Tab.{length-tab}
 use Rattle.target.specs.Limits.{plainRoom}
-use Rattle.memory.specs.Place.{isSite}
+use Rattle.memory.specs.Place.{isSite, hasProtected}
 use Rattle.target.specs.Free.{isFree, firstFree}
 use Rattle.target.specs.declared.Element.{Element}
 use Rattle.rules.specs.Outcome.{World}
@@ -97,10 +97,11 @@ module _ {head : Head} (w : World) (g : GoodWorld head w) where
 
   -- one is made
   pub good-planted : (site : ℕ) → inHand w ≡ true → siteFree head w site ≡ true
+      → hasProtected (w .target .protected) (site - w .target .base) (width head) ≡ false
       → wellFormed (w .target .table .draft .elements) ≡ true
       → GoodWorld head (planted head w site)
   unfolding planted inHand siteFree isSite madeEntry plainRead isFree entryOf
-  good-planted site hand free formed =
+  good-planted site hand free off formed =
       let es = w .target .table .entries in
       let d = w .target .table .draft in
       let n : eqb (d .active) 0 ≡ false = not-true (eqb (d .active) 0) hand in
@@ -120,6 +121,7 @@ module _ {head : Head} (w : World) (g : GoodWorld head w) where
         whole = o .whole;
         formed = formed;
       })
+      off
       (λ j u e. omega (arith, id-first es (d .id) j (omega (arith, u .0)) (u .1) e, o .unused, u .0))
       (λ j u e. omega (arith, at-first es site j (omega (arith, u .0)) (u .1) e, u .0))
 

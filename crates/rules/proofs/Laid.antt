@@ -15,7 +15,7 @@ use Rattle.memory.specs.Overlay.{freeSite, siteOver, slotOf, covered, plainOf, 
 use Rattle.memory.specs.Place.{placeOf}
 use Rattle.memory.specs.Write.{plainRead, overwritten, memAfter, plainAfter}
 use Rattle.memory.specs.declared.Place.{Place}
-use Rattle.memory.specs.declared.Place.the-variants.{Registers, Window, Nowhere}
+use Rattle.memory.specs.declared.Place.the-variants.{Registers, Window, Protected, Nowhere}
 use borrow.Author.Tests.{ltb-true, lt-ltb}
 use Rattle.common.proofs.Same.{true-or-false, and-both}
 use Rattle.common.proofs.Cases.{on-test, same-test}
@@ -96,6 +96,7 @@ into-window : (p : Place) → intoWindow p ≡ true → p ≡ Window
 unfolding intoWindow
 into-window Registers e = true-or-false e
 into-window Window e = refl
+into-window Protected e = true-or-false e
 into-window Nowhere e = true-or-false e
 
 -- those that the book has in the window are some, and are there

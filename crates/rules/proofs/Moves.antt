@@ -51,6 +51,7 @@ module _ {head : Head} (s : Setup) (b : Book) (t : Target) (mem : List ℕ) (v :
   move-current selected pid = record {
     base = v .base;
     size = v .size;
+    protected = v .protected;
     count = v .count;
     pids = v .pids;
     plain = v .plain;
@@ -69,6 +70,7 @@ module _ {head : Head} (s : Setup) (b : Book) (t : Target) (mem : List ℕ) (v :
   move-table u mem′ plain l o p q h = record {
     base = v .base;
     size = v .size;
+    protected = v .protected;
     count = v .count;
     pids = v .pids;
     plain = p;
@@ -89,6 +91,7 @@ module _ {head : Head} (s : Setup) (b : Book) (t : Target) (mem : List ℕ) (v :
   move-processes ps l same h = record {
     base = v .base;
     size = v .size;
+    protected = v .protected;
     count = v .count;
     pids = rw same (v .pids);
     plain = v .plain;
@@ -183,6 +186,7 @@ module _ {head : Head} (s : Setup) (b : Book) (t : Target) (mem : List ℕ) (v :
   move-restart law regs = record {
     base = v .base;
     size = v .size;
+    protected = v .protected;
     count = v .count;
     pids = rw (pids-restarted (t .count) (t .processes)) (v .pids);
     plain = plain-fresh law (t .base) _ ∙ v .plain;

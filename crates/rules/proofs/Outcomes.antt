@@ -10,7 +10,7 @@ use lib.Dec.{ltb, eqb}
 use lib.ListN.{length}
 use Rattle.common.proofs.Cases.{choose}
 use Rattle.common.proofs.Same.{and-both, neither, parts}
-use Rattle.target_fit.specs.Fit.{stopped, entryAt, windowFit, processesFit, fitOf}
+use Rattle.target_fit.specs.Fit.{stopped, entryAt, windowFit, boundsFit, processesFit, fitOf}
 use Rattle.memory.specs.Head.{Head}
 use Rattle.request_parse.specs.Request.{parseOf}
 use Rattle.target.specs.Fresh.{emptyTarget}
@@ -84,22 +84,24 @@ pub data TextOutcome (head : Head) (w : World) (bytes reply : List ℕ) : Outcom
 
 -- ---- setup: taken, with what its rule tells, or refused and the record empty
 
-pub data SetUp (base size : ℕ) (pids addresses : List ℕ) (count : ℕ) (mem regs : List ℕ) : Outcome → Type 0 where
-  taken : windowFit base size ≡ true → processesFit (setupTarget base size pids addresses count .processes) count ≡ true
+pub data SetUp (base size from to : ℕ) (pids addresses : List ℕ) (count : ℕ) (mem regs : List ℕ) : Outcome → Type 0 where
+  taken : windowFit base size ≡ true → boundsFit base size from to ≡ true
+      → processesFit (setupTarget base size from to pids addresses count .processes) count ≡ true
       → length mem ≡ size
-      → SetUp base size pids addresses count mem regs
-      (answered Nothing (world (setupTarget base size pids addresses count) mem regs))
+      → SetUp base size from to pids addresses count mem regs
+      (answered Nothing (world (setupTarget base size from to pids addresses count) mem regs))
   emptied : (n : ℕ) → eqb n 0 ≡ false
-      → SetUp base size pids addresses count mem regs (outcome n Nothing (world emptyTarget mem regs) [])
+      → SetUp base size from to pids addresses count mem regs (outcome n Nothing (world emptyTarget mem regs) [])
 
-pub set-up : (base size : ℕ) (pids addresses : List ℕ) (count : ℕ) (mem regs : List ℕ)
-    → SetUp base size pids addresses count mem regs (setupOf base size pids addresses count mem regs)
+pub set-up : (base size from to : ℕ) (pids addresses : List ℕ) (count : ℕ) (mem regs : List ℕ)
+    → SetUp base size from to pids addresses count mem regs (setupOf base size from to pids addresses count mem regs)
 unfolding setupOf
-set-up base size pids addresses count mem regs =
-    let P = SetUp base size pids addresses count mem regs in
-    choose P (windowFit base size && processesFit (setupTarget base size pids addresses count .processes) count)
+set-up base size from to pids addresses count mem regs =
+    let P = SetUp base size from to pids addresses count mem regs in
+    choose P (windowFit base size && boundsFit base size from to
+    && processesFit (setupTarget base size from to pids addresses count .processes) count)
     (λ e. choose P (eqb (length mem) size && eqb (length regs) (136 * count))
-    (λ f. taken (search parts) (search parts) (search parts)) (λ f. emptied 2 refl))
+    (λ f. taken (search parts) (search parts) (search parts) (search parts)) (λ f. emptied 2 refl))
     (λ e. emptied 1 refl)
 
 -- ---- the walk over a step

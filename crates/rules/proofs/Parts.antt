@@ -8,7 +8,7 @@ use borrow.Author.Tests.{le-leb}
 use lib.ListN.{length, getD}
 use Rattle.common.proofs.Same.{parts}
 use Rattle.target_fit.specs.Arrays.{sitesOf}
-use Rattle.target_fit.specs.Fit.{windowFit, processesFit, marksFit, currentFit, draftFit, entryAt, heldOf}
+use Rattle.target_fit.specs.Fit.{windowFit, processesFit, marksFit, currentFit, draftFit, entryAt, heldOf, stretchFit}
 use Rattle.memory.specs.Head.{Head, width, Lawful}
 use Rattle.memory.specs.Overlay.{siteOver}
 use Rattle.memory.proofs.Site.{site-place, site-same}
@@ -17,11 +17,12 @@ use Rattle.memory.proofs.Slots.{covered-by}
 use Rattle.memory_laws.proofs.Planted.{Planted, planted-at}
 use Rattle.target.specs.View.{Draft, Entry, Table, Target}
 use Rattle.target.specs.declared.Process.{Process}
+use Rattle.target.specs.declared.Stretch.{Stretch}
 use Rattle.rules.specs.Breakpoint.{sites}
-use Rattle.rules.proofs.Facts.{ShapedEntry, Used, UsedFacts, Good}
+use Rattle.rules.proofs.Facts.{ShapedEntry, Used, UsedFacts, Off, Good}
 use Rattle.rules.specs.Record.{withTable, withProcesses, withCurrent}
 use Rattle.rules.proofs.Slots.{length-sites, slot-used}
-use Rattle.rules.proofs.FitFacts.{tests-of, facts-by, entries-fit, fit-by, planted-of}
+use Rattle.rules.proofs.FitFacts.{tests-of, facts-by, entries-fit, protected-fit, fit-by, planted-of}
 use Rattle.rules.proofs.Rows.{Rows}
 
 -- n processes, and the one that is current
@@ -36,12 +37,13 @@ pub record DraftParts (d : Draft) (es : List Entry) : Type 0 where
   pub id : d .id < 256
   pub fit : draftFit d es ≡ true
 
--- a table over memory, which is a window of n bytes at base
-pub record TableParts (head : Head) (base n : ℕ) (u : Table) (mem : List ℕ) : Type 0 where
+-- a table over memory, which is a window of n bytes at base, of which p is protected
+pub record TableParts (head : Head) (base n : ℕ) (p : Stretch) (u : Table) (mem : List ℕ) : Type 0 where
   pub eight : length (u .entries) ≡ 8
   pub entry : (k : ℕ) → k < 8 → ShapedEntry (entryAt (u .entries) k)
   pub draft : DraftParts (u .draft) (u .entries)
   pub rows : Rows (width head) base n (u .entries)
+  pub off : Off (width head) base p (u .entries)
   pub planted : Planted (head .trap) (sitesOf base (u .entries)) mem
   pub sized : length mem ≡ n
   pub held : heldOf u ≤ 128
@@ -50,8 +52,9 @@ pub record TableParts (head : Head) (base n : ℕ) (u : Table) (mem : List ℕ) 
 pub record Parts (head : Head) (t : Target) (mem : List ℕ) : Type 0 where
   pub lawful : Lawful head
   pub window : windowFit (t .base) (t .size) ≡ true
+  pub stretch : stretchFit (t .base) (t .size) (t .protected) ≡ true
   pub processes : ProcessParts (t .processes) (t .count) (t .selected) (t .current)
-  pub table : TableParts head (t .base) (t .size) (t .table) mem
+  pub table : TableParts head (t .base) (t .size) (t .protected) (t .table) mem
 
 module _ {head : Head} (t : Target) (mem : List ℕ) where
   -- a good record has the parts
@@ -62,6 +65,7 @@ module _ {head : Head} (t : Target) (mem : List ℕ) where
       record {
         lawful = g .lawful;
         window = c .window;
+        stretch = f .stretch;
         processes = record { four = g .shaped .processes; pids = c .processes; marks = c .marks; current = c .current };
         table = record {
           eight = g .shaped .entries;
@@ -80,6 +84,7 @@ module _ {head : Head} (t : Target) (mem : List ℕ) where
             ids = f .idsDiffer;
             sites = f .sitesDiffer;
           };
+          off = f .off;
           planted = planted-of t mem g;
           sized = g .sized;
           held = f .held;
@@ -130,6 +135,7 @@ module _ {head : Head} (t : Target) (mem : List ℕ) where
           };
           fit = fit-by t mem (record {
             window = c .window;
+            protected = protected-fit head t mem (c .stretch) (u .off);
             processes = p .pids;
             marks = p .marks;
             current = p .current;
@@ -144,7 +150,7 @@ module _ {head : Head} (t : Target) (mem : List ℕ) where
 
 module _ {head : Head} (t : Target) (mem : List ℕ) (g : Good head t mem) where
   -- the table, and memory with it
-  pub good-table : (u : Table) (mem′ : List ℕ) → TableParts head (t .base) (t .size) u mem′
+  pub good-table : (u : Table) (mem′ : List ℕ) → TableParts head (t .base) (t .size) (t .protected) u mem′
       → Good head (withTable t u) mem′
   unfolding withTable
   good-table u mem′ c =
@@ -152,6 +158,7 @@ module _ {head : Head} (t : Target) (mem : List ℕ) (g : Good head t mem) where
       good-of (withTable t u) mem′ (record {
         lawful = o .lawful;
         window = o .window;
+        stretch = o .stretch;
         processes = o .processes;
         table = c;
       })
@@ -165,6 +172,7 @@ module _ {head : Head} (t : Target) (mem : List ℕ) (g : Good head t mem) where
       good-of (withProcesses t ps) mem (record {
         lawful = o .lawful;
         window = o .window;
+        stretch = o .stretch;
         processes = c;
         table = o .table;
       })
@@ -179,6 +187,7 @@ module _ {head : Head} (t : Target) (mem : List ℕ) (g : Good head t mem) where
       good-of (withCurrent t selected pid) mem (record {
         lawful = o .lawful;
         window = o .window;
+        stretch = o .stretch;
         table = o .table;
         processes = record { four = p .four; pids = p .pids; marks = p .marks; current = e };
       })

@@ -277,7 +277,7 @@ module _ {head : Head} (s : Setup) (b : Book) (t : Target) (mem : List ℕ) (a :
       → RequestCase head (world t mem regs) p x q v → ReadsRequest head s b regs p x (bytesOf q)
   unfolding ReadsRequest ReadsMessage
   reads-left (got d h) = reads-got _ _ d h
-  reads-left (put h p) = tt
+  reads-left (put h p o) = tt
   reads-left (aside r h) = tt
   reads-left (current h) = tt
   reads-left (told x) = tt
@@ -287,7 +287,7 @@ module _ {head : Head} (s : Setup) (b : Book) (t : Target) (mem : List ℕ) (a :
   reads-left (started h e) = reads-started _ _ h e
   reads-left (cleared h e) = reads-cleared _ _ h e
   reads-left (begins n x y z) = tt
-  reads-left (plants n x h y z) = tt
+  reads-left (plants n x h y o z) = tt
   reads-left (removes n x d y z) = tt
   reads-left (adds n x d h r) = tt
 
@@ -329,7 +329,7 @@ module _ {head : Head} (s : Setup) (b : Book) (t : Target) (mem : List ℕ) (a :
   reads-text regs bytes buffer q r f (refusing errno) = λ p g k z c. true-or-false c
   reads-text regs bytes buffer q r f (word-read v k e) = λ p g i z c.
       rw (← same-packet q p (sym f ∙ g), ← reads-fetched (q .third) v e)
-  reads-text regs bytes buffer q r f (word-written v k e) = λ p g i z c.
+  reads-text regs bytes buffer q r f (word-written v k e o) = λ p g i z c.
       rw (← same-packet q p (sym f ∙ g), ← reads-fetched (q .third) v e)
   reads-text regs bytes buffer q r f (register-read v k) = λ p g i z c.
       true-or-false (rw (← same-packet q p (sym f ∙ g), k) at i)

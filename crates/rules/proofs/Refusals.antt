@@ -37,6 +37,7 @@ kept-draft w d = record {
   entries = refl;
   base = refl;
   size = refl;
+  protected = refl;
   count = refl;
   processes = refl;
   selected = refl;
@@ -84,7 +85,7 @@ left-text : {head : Head} {w : World} {bytes reply : List ℕ} {o : Outcome} →
 unfolding textReplied isCompleted
 left-text (text-outcome p r q (texts.refusing errno)) e = refl
 left-text (text-outcome p r q (word-read v k f)) e = true-or-false e
-left-text (text-outcome p r q (word-written v k f)) e = true-or-false e
+left-text (text-outcome p r q (word-written v k f g)) e = true-or-false e
 left-text (text-outcome p r q (register-read v k)) e = true-or-false e
 left-text (text-outcome p r q (register-written v regs k)) e = true-or-false e
 
@@ -117,12 +118,12 @@ refusals head t mem (textStep regs bytes reply) =
 
 -- ---- setup
 
-left-setup : {base size : ℕ} {pids addresses : List ℕ} {count : ℕ} {mem regs : List ℕ} {o : Outcome}
-    → SetUp base size pids addresses count mem regs o → SetupLeaves mem regs o
+left-setup : {base size from to : ℕ} {pids addresses : List ℕ} {count : ℕ} {mem regs : List ℕ} {o : Outcome}
+    → SetUp base size from to pids addresses count mem regs o → SetupLeaves mem regs o
 unfolding answered
-left-setup (taken e f z) = record { memory = refl; area = refl; empty = λ n. absurd (n refl) }
+left-setup (taken e g f z) = record { memory = refl; area = refl; empty = λ n. absurd (n refl) }
 left-setup (emptied n h) = record { memory = refl; area = refl; empty = λ z. refl }
 
 pub setups : (s : Setup) → SetupLeaves (s .mem) (s .regs) (setupBy s)
 unfolding setupBy
-setups s = left-setup (set-up (s .base) (s .size) (s .pids) (s .addresses) (s .count) (s .mem) (s .regs))
+setups s = left-setup (set-up (s .base) (s .size) (s .from) (s .to) (s .pids) (s .addresses) (s .count) (s .mem) (s .regs))

@@ -20,10 +20,13 @@ use Rattle.condition.specs.declared.Room.{Room}
 use Rattle.condition.specs.declared.Room.the-variants.{Fits, Full, Short}
 use Rattle.target_fit.specs.Fit.{processAt, entryOf, heldOf}
 use Rattle.memory.specs.Head.{Head, width}
-use Rattle.memory.specs.Place.{placeOf}
+use Rattle.memory.specs.Place.{placeOf, hasProtected, namedBy}
+use Rattle.memory.proofs.Protected.{read-named, write-registers, write-window}
+use Rattle.memory.specs.declared.Access.{Access}
+use Rattle.memory.specs.declared.Access.the-variants.{Read, Write}
 use Rattle.memory.specs.Write.{plainRead}
 use Rattle.memory.specs.declared.Place.{Place}
-use Rattle.memory.specs.declared.Place.the-variants.{Registers, Window, Nowhere}
+use Rattle.memory.specs.declared.Place.the-variants.{Registers, Window, Protected, Nowhere}
 use Rattle.request_parse.specs.Request.{parseOf}
 use Rattle.request_parse.proofs.Asked.{asks-type, asks-last, asks-not-ten}
 use Rattle.request_parse.specs.declared.Parsed.{Parsed}
@@ -32,7 +35,7 @@ use Rattle.target.specs.Free.{firstFree}
 use Rattle.target.specs.declared.Element.{Element}
 use Rattle.target.specs.declared.Process.{Process}
 use Rattle.wire_text.specs.declared.Reason.{Reason}
-use Rattle.wire_text.specs.declared.Reason.the-variants.{Count, Inval, Pid, Notstop}
+use Rattle.wire_text.specs.declared.Reason.the-variants.{Count, Inval, Pid, Unsup, Notstop}
 use Rattle.wire.specs.Message.{isMessage, typeOf, fieldsOf, bytesOf, bytes4}
 use Rattle.wire.specs.declared.Data4.{Data4}
 use Rattle.wire.specs.declared.Data9.{Data9}
@@ -72,6 +75,7 @@ pub data RequestCase (head : Head) (w : World) : Parsed → Answer → Message �
       → RequestCase head w (Request (Tmget addr n)) Nothing (Rmget d) w
   -- written to the window
   put : {addr n : ℕ} {d : Data4} → 0 < n → placeOf (w .target .base) (w .target .size) addr n ≡ Window
+      → hasProtected (w .target .protected) (addr - w .target .base) n ≡ false
       → RequestCase head w (Request (Tmput addr n d)) Nothing Rmput (windowWritten head w addr (take n (bytes4 d)))
   -- written to the register area, or no bytes at all
   aside : {addr n : ℕ} {d : Data4} (regs : List ℕ)
@@ -102,6 +106,7 @@ pub data RequestCase (head : Head) (w : World) : Parsed → Answer → Message �
       (withTarget w (withDraft (w .target) (begun val)))
   plants : {val op : ℕ} → eqb op (code "n") ≡ false → eqb op (code "b") ≡ true → inHand w ≡ true
       → siteFree head w val ≡ true
+      → hasProtected (w .target .protected) (val - w .target .base) (width head) ≡ false
       → wellFormed (w .target .table .draft .elements) ≡ true
       → RequestCase head w (Request (Tcondbreak val op)) Nothing Rcondbreak (planted head w val)
   removes : {val op : ℕ} → eqb op (code "n") ≡ false → eqb op (code "b") ≡ false → eqb op (code "d") ≡ true
@@ -151,27 +156,39 @@ module _ (head : Head) (w : World) where
     abbrev place : Place
     place = placeOf (w .target .base) (w .target .size) addr n
 
+    -- the same where they are to be read or written
+    abbrev named : Access → Place
+    named access = namedBy access (w .target .protected) (w .target .base) (w .target .size) addr n
+
+    is-read : named Read ≡ place
+    is-read = read-named (w .target .protected) (w .target .base) (w .target .size) addr n
+
     -- a stretch in the registers is not in the window
     elsewhere : {A : Type 0} → place ≡ Registers → 0 < n → place ≡ Window → A
     elsewhere e h q = let r : Registers ≡ Window = sym e ∙ q in let z : _≡_ {A = ℕ} 0 1 = cc in absurd (omega arith)
 
-    got-from : 0 < n → (p : Place) → place ≡ p
+    got-from : 0 < n → (p : Place) → named Read ≡ p
         → RequestOutcome w false (RequestCase head w (Request (Tmget addr n))) (gotFrom head p w addr n)
     unfolding gotFrom isMessage typeOf
     got-from h Registers e =
-        on-block _ (λ i. serving Nothing (Rmget _) w refl refl (got _ (elsewhere e)))
+        on-block _ (λ i. serving Nothing (Rmget _) w refl refl (got _ (elsewhere (sym is-read ∙ e))))
     got-from h Window e = serving Nothing (Rmget _) w refl refl (got _ (λ g q. refl))
+    got-from h Protected e = failing Unsup
     got-from h Nowhere e = failing Inval
 
-    put-to : (d : Data4) → 0 < n → (p : Place) → place ≡ p
+    put-to : (d : Data4) → 0 < n → (p : Place) → named Write ≡ p
         → RequestOutcome w false (RequestCase head w (Request (Tmput addr n d))) (putTo head p w addr (take n
         (bytes4 d)))
     unfolding putTo isMessage typeOf
     put-to d h Registers e =
         choose (RequestOutcome w false (RequestCase head w (Request (Tmput addr n d)))) (leb addr 3)
         (λ g. failing Inval)
-        (λ g. on-block _ (λ i. serving Nothing Rmput _ refl refl (aside _ (elsewhere e))))
-    put-to d h Window e = serving Nothing Rmput _ refl refl (put h e)
+        (λ g. on-block _ (λ i. serving Nothing Rmput _ refl refl (aside _
+        (elsewhere (write-registers (w .target .protected) _ _ addr n e)))))
+    put-to d h Window e =
+        let o = write-window (w .target .protected) _ _ addr n e in
+        serving Nothing Rmput _ refl refl (put h (o .0) (o .1))
+    put-to d h Protected e = failing Unsup
     put-to d h Nowhere e = failing Inval
 
     some : eqb n 0 ≡ false → 0 < n
@@ -182,7 +199,7 @@ module _ (head : Head) (w : World) where
     mget-of =
         choose (RequestOutcome w false (RequestCase head w (Request (Tmget addr n)))) (eqb n 0)
         (λ e. serving Nothing (Rmget _) w refl refl (got _ (λ h q. absurd (omega (arith, eqb-true n 0 e)))))
-        (λ e. got-from (some e) place refl)
+        (λ e. got-from (some e) (named Read) refl)
 
     mput-of : (d : Data4) → RequestOutcome w false (RequestCase head w (Request (Tmput addr n d)))
         (mput head w addr n d)
@@ -190,7 +207,7 @@ module _ (head : Head) (w : World) where
     mput-of d =
         choose (RequestOutcome w false (RequestCase head w (Request (Tmput addr n d)))) (eqb n 0)
         (λ e. serving Nothing Rmput w refl refl (aside (w .regs) (λ h q. omega (arith, eqb-true n 0 e))))
-        (λ e. put-to d (some e) place refl)
+        (λ e. put-to d (some e) (named Write) refl)
 
   -- ---- the five requests with a pid
 
@@ -230,9 +247,12 @@ module _ (head : Head) (w : World) where
       b-of : eqb op (code "b") ≡ true → By true (setBreakpoint head w val)
       unfolding setBreakpoint failed isMessage typeOf
       b-of b =
-          let d = w .target .table .draft in
-          choose (By true) (inHand w && siteFree head w val && wellFormed (d .elements))
-          (λ e. serving Nothing Rcondbreak _ refl refl (plants n b (search parts) (search parts) (search parts)))
+          let t = w .target in
+          choose (By true) (inHand w && siteFree head w val)
+          (λ e. choose (By true) (hasProtected (t .protected) (val - t .base) (width head)) (λ f. failing Unsup)
+          (λ f. choose (By true) (wellFormed (t .table .draft .elements))
+          (λ g. serving Nothing Rcondbreak _ refl refl (plants n b (search parts) (search parts) f g))
+          (λ g. failing Inval)))
           (λ e. failing Inval)
 
       module _ (b : eqb op (code "b") ≡ false) where

@@ -14,7 +14,9 @@ use Rattle.target.specs.Free.{isFree}
 use Rattle.target.specs.Fresh.{noEntry, freshEntry}
 use Rattle.target.specs.View.{Entry}
 use Rattle.rules.specs.Request.{withPlains}
-use Rattle.rules.proofs.Facts.{UsedIn, Differ}
+use Rattle.rules.proofs.Facts.{UsedIn, Differ, Off}
+use Rattle.memory.specs.Place.{hasProtected}
+use Rattle.target.specs.declared.Stretch.{Stretch}
 use Rattle.rules.proofs.Slots.{withPlain, with-at}
 
 -- a used entry over a window of n bytes at base, where traps have w bytes
@@ -65,6 +67,13 @@ module _ (es : List Entry) (size : length es ≡ 8) (k : ℕ) (e : Entry) (h : k
     sites = differ-set (λ x. x .site) (r .sites) sites;
   }
 
+  -- sites stay off the stretch where the one stored is free or off it
+  pub off-set : (w base : ℕ) (p : Stretch) → Off w base p es
+      → (isFree e ≡ false → hasProtected p (e .site - base) w ≡ false) → Off w base p (set es k e)
+  off-set w base p old new j (l, u) =
+      stored-at (λ x. isFree x ≡ false → hasProtected p (x .site - base) w ≡ false) j (λ q. new)
+      (λ n v. old j (l, v)) u
+
 -- ---- other plain bytes
 
 module _ (es : List Entry) (size : length es ≡ 8) (bytes : List ℕ) where
@@ -102,11 +111,19 @@ module _ (es : List Entry) (size : length es ≡ 8) (bytes : List ℕ) where
     sites = differ-with (λ e. e .site) (λ e p. refl) (r .sites);
   }
 
+  pub off-with : (w base : ℕ) (p : Stretch) → Off w base p es → Off w base p (withPlains es bytes)
+  off-with w base p old k u =
+      ap (λ (s : ℕ). hasProtected p (s - base) w) (with-same (λ e. e .site) (λ e p. refl) k (u .0))
+      ∙ old k (used-with k u)
+
 -- ---- a fresh table has no used entry
 
 pub fresh-free : (k : ℕ) → k < 8 → isFree (entryAt (replicate 8 freshEntry) k) ≡ true
 unfolding isFree
 fresh-free k h = ap isFree (getD-replicate 8 k freshEntry noEntry h)
+
+pub off-fresh : (w base : ℕ) (p : Stretch) → Off w base p (replicate 8 freshEntry)
+off-fresh w base p k (h, u) = true-or-false (sym u ∙ fresh-free k h)
 
 pub rows-fresh : (w base n : ℕ) → Rows w base n (replicate 8 freshEntry)
 rows-fresh w base n = record {

@@ -10,10 +10,10 @@ use Rattle.common.proofs.Same.{same-refl, true-or-false}
 use Rattle.memory.specs.Head.{house}
 use Rattle.wire_text.specs.declared.Reason.{Reason}
 use Rattle.rules.specs.Outcome.{answerBytes}
-use Rattle.rules.specs.Step.{Step, stateEvent}
+use Rattle.rules.specs.Step.{Setup, setupBy, Step, stateEvent}
 use Rattle.rules.specs.Claim.{Stub, stubOf, Part, Says, Right, Action, step, Claim, Demand3}
 use Rattle.rules.specs.Claim.{numberPart, answerPart, replyPart, fitPart, readsPart, trappedPart, trapPart}
-use Rattle.rules.specs.Claim.{startPart, restartPart, textPart}
+use Rattle.rules.specs.Claim.{startPart, restartPart, textPart, protectedPart}
 use Rattle.rules.specs.Claims.{ShutOut, AllShut, none, _&_}
 use Rattle.rules.specs.Stubs.{rerrAlways, zerosAlways, storesNothing, plantsFirstOnly, plantsNothing}
 use Rattle.rules.specs.Stubs.{readsReal, findsNoSite, neverStops, acceptsStates, answersStates, zeroRestart}
@@ -23,12 +23,14 @@ use Rattle.rules.specs.Stubs.{readBack, case10, stoppedArea, continued, 
 use Rattle.text_packet.specs.declared.Packet.{Packet}
 use Rattle.common.specs.Text.{codes}
 use Prim.Native.Char.{code}
-use Rattle.rules.specs.Stubs.{Stage, firstStage, passed, SaysAfter, RealAfter, StubRow, part, memory, actsOf}
-use Rattle.rules.specs.Stubs.{SaysRow}
+use Rattle.rules.specs.Stubs.{Stage, firstStage, passed, SaysAfter, RealAfter, StubRow, part, guarded, memory}
+use Rattle.rules.specs.Stubs.{actsOf}
+use Rattle.rules.specs.Stubs.{SaysRow, guardedSetup, protectsNothing}
+use Rattle.rules.specs.Book.{realBy}
 use Rattle.rules.specs.Stubs.{stubRows}
 use Rattle.rules.specs.Worked.{workedSetup}
 use Rattle.rules.proofs.Computes.{claim-computes}
-use Rattle.rules.proofs.Worked.{setup-accepted}
+use Rattle.rules.proofs.Worked.{setup-accepted, guarded-accepted}
 
 -- ---- what demand 3 gives of a stub, after steps of the worked setup
 
@@ -44,28 +46,37 @@ said c trapPart = c .trap
 said c startPart = c .start
 said c restartPart = c .restart
 said c textPart = c .text
+said c protectedPart = c .protected
 
-module _ (f : Stub) where
+module _ (s : Setup) (accepted : setupBy s .number ≡ 0) (f : Stub) where
   along : (g : Stage f) (es : List Step) (rest : List Action)
-      → Claim house workedSetup f (g .book) (g .target) (g .own) (g .mem) (map step es ++ rest)
-      → let z = passed f g es in Claim house workedSetup f (z .book) (z .target) (z .own) (z .mem) rest
+      → Claim house s f (g .book) (g .target) (g .own) (g .mem) (map step es ++ rest)
+      → let z = passed s f g es in Claim house s f (z .book) (z .target) (z .own) (z .mem) rest
   unfolding Claim passed
   along g [] rest c = c
   along g (e ∷ es) rest c = along _ es rest (c .1)
 
-  says-after : Demand3 house f → (p : Part) (es : List Step) (e : Step) → SaysAfter p f es e
+  says-after : Demand3 house f → (p : Part) (es : List Step) (e : Step) → SaysAfter s p f es e
   unfolding Claim SaysAfter
   says-after d p es e =
-      said (along (firstStage f) es (step e ∷ []) (d workedSetup setup-accepted (map step es ++ (step e ∷ []))) .0) p
+      said (along (firstStage s f) es (step e ∷ []) (d s accepted (map step es ++ (step e ∷ []))) .0) p
 
-  real-after : Demand3 house f → (es : List Step) → RealAfter f es
-  unfolding Claim RealAfter
-  real-after d es = along (firstStage f) es [] (d workedSetup setup-accepted (map step es ++ []))
+  real-along : Demand3 house f → (es : List Step)
+      → let z = passed s f (firstStage s f) es in z .mem ≡ realBy house s (z .book)
+  unfolding Claim
+  real-along d es = along (firstStage s f) es [] (d s accepted (map step es ++ []))
+
+real-after : (f : Stub) → Demand3 house f → (es : List Step) → RealAfter f es
+unfolding RealAfter
+real-after f d es = real-along workedSetup setup-accepted f d es
 
 -- so it is false of a stub of which a row's part is
 by-row : (x : StubRow) → (SaysRow x → ⊥) → ShutOut x
 unfolding SaysRow actsOf
-by-row (part p f es e) n = record { row = n; claim = λ d. n (says-after (stubOf f) d p es e) }
+by-row (part p f es e) n =
+    record { row = n; claim = λ d. n (says-after workedSetup setup-accepted (stubOf f) d p es e) }
+by-row (guarded p f es e) n =
+    record { row = n; claim = λ d. n (says-after guardedSetup guarded-accepted (stubOf f) d p es e) }
 by-row (memory f es) n = record { row = n; claim = λ d. n (real-after (stubOf f) d es) }
 
 -- ---- the table
@@ -87,19 +98,19 @@ readBytes = highFirst 10 0x02_00001008_04_00000000
 abbrev twoRead : List ℕ
 twoRead = highFirst 10 0x02_00001008_02_00000000
 
-rerr-always : (r : Reason) → SaysAfter replyPart (stubOf (rerrAlways r)) [] case1 → ⊥
+rerr-always : (r : Reason) → SaysAfter workedSetup replyPart (stubOf (rerrAlways r)) [] case1 → ⊥
 unfolding claim-computes
 rerr-always r c = apart c refl
 
-zeros-always : SaysAfter replyPart (stubOf zerosAlways) [] case1 → ⊥
+zeros-always : SaysAfter workedSetup replyPart (stubOf zerosAlways) [] case1 → ⊥
 unfolding claim-computes
 zeros-always c = apart c refl
 
-stores-nothing-reply : SaysAfter replyPart (stubOf storesNothing) case5 readBack → ⊥
+stores-nothing-reply : SaysAfter workedSetup replyPart (stubOf storesNothing) case5 readBack → ⊥
 unfolding claim-computes
 stores-nothing-reply c = apart c refl
 
-stores-nothing-reads : SaysAfter readsPart (stubOf storesNothing) case5 readBack → ⊥
+stores-nothing-reads : SaysAfter workedSetup readsPart (stubOf storesNothing) case5 readBack → ⊥
 unfolding claim-computes
 stores-nothing-reads c = apart (c zeroed readBytes (replicate 10 0) 4_104 4 refl refl refl refl) refl
 
@@ -115,22 +126,22 @@ plants-nothing : RealAfter (stubOf plantsNothing) case4 → ⊥
 unfolding claim-computes
 plants-nothing c = apart c refl
 
-reads-real : SaysAfter readsPart (stubOf (readsReal 1)) case4 twoBytes → ⊥
+reads-real : SaysAfter workedSetup readsPart (stubOf (readsReal 1)) case4 twoBytes → ⊥
 unfolding claim-computes
 reads-real c = apart (c zeroed twoRead (replicate 10 0) 4_104 2 refl refl refl refl) refl
 
-evaluates-real : SaysAfter trapPart (stubOf (readsReal 2)) case10 trapAt → ⊥
+evaluates-real : SaysAfter workedSetup trapPart (stubOf (readsReal 2)) case10 trapAt → ⊥
 unfolding claim-computes
 evaluates-real c = apart (ap (answerBytes house) (c zeroed trapBlock 5 refl refl)) refl
 
 abbrev startBytes : List ℕ
 startBytes = highFirst 10 0x0e_00000005_0000000000
 
-starts-real : SaysAfter startPart (stubOf (readsReal 1)) (case4 ++ (trapAt ∷ [])) continued → ⊥
+starts-real : SaysAfter workedSetup startPart (stubOf (readsReal 1)) (case4 ++ (trapAt ∷ [])) continued → ⊥
 unfolding claim-computes
 starts-real c = apart (ap (answerBytes house) (c stoppedArea startBytes (replicate 10 0) 5 refl refl refl)) refl
 
-starts-silent : SaysAfter startPart (stubOf answersNothing) (case4 ++ (trapAt ∷ [])) continued → ⊥
+starts-silent : SaysAfter workedSetup startPart (stubOf answersNothing) (case4 ++ (trapAt ∷ [])) continued → ⊥
 unfolding claim-computes
 starts-silent c = apart (ap (answerBytes house) (c stoppedArea startBytes (replicate 10 0) 5 refl refl refl)) refl
 
@@ -138,31 +149,31 @@ removes-at-start : RealAfter (stubOf removesAtStart) (case4 ++ (trapAt ∷ conti
 unfolding claim-computes
 removes-at-start c = apart c refl
 
-finds-no-site : SaysAfter trappedPart (stubOf findsNoSite) case4 trapAt → ⊥
+finds-no-site : SaysAfter workedSetup trappedPart (stubOf findsNoSite) case4 trapAt → ⊥
 unfolding claim-computes
 finds-no-site c = apart (ap one (c zeroed trapBlock 5 refl)) refl
 
-never-stops : SaysAfter answerPart (stubOf neverStops) (asking 0x0c_00000005_0000000000 ∷ []) scheduled → ⊥
+never-stops : SaysAfter workedSetup answerPart (stubOf neverStops) (asking 0x0c_00000005_0000000000 ∷ []) scheduled → ⊥
 unfolding claim-computes
 never-stops c = apart (ap (answerBytes house) c) refl
 
-accepts-states : SaysAfter numberPart (stubOf acceptsStates) [] (stateEvent zeroed 5 8) → ⊥
+accepts-states : SaysAfter workedSetup numberPart (stubOf acceptsStates) [] (stateEvent zeroed 5 8) → ⊥
 unfolding claim-computes
 accepts-states c = apart (ap one c) refl
 
-answers-states : SaysAfter answerPart (stubOf answersStates) [] (stateEvent zeroed 5 9) → ⊥
+answers-states : SaysAfter workedSetup answerPart (stubOf answersStates) [] (stateEvent zeroed 5 9) → ⊥
 unfolding claim-computes
 answers-states c = apart (ap (answerBytes house) c) refl
 
-zero-restart : SaysAfter replyPart (stubOf zeroRestart) [] restartNow → ⊥
+zero-restart : SaysAfter workedSetup replyPart (stubOf zeroRestart) [] restartNow → ⊥
 unfolding claim-computes
 zero-restart c = apart c refl
 
-keeps-traps : SaysAfter restartPart (stubOf keepsTraps) case4 restartNow → ⊥
+keeps-traps : SaysAfter workedSetup restartPart (stubOf keepsTraps) case4 restartNow → ⊥
 unfolding claim-computes
 keeps-traps c = apart (c zeroed (replicate 10 0) refl refl) refl
 
-always-unfit : SaysAfter fitPart (stubOf alwaysUnfit) [] case1 → ⊥
+always-unfit : SaysAfter workedSetup fitPart (stubOf alwaysUnfit) [] case1 → ⊥
 unfolding claim-computes
 always-unfit c = c refl
 
@@ -170,13 +181,28 @@ always-unfit c = c refl
 abbrev wordAsked : Packet
 wordAsked = record { pid = 0; letter = code "i"; third = 4_104; fourth = 0 }
 
-texts-real : SaysAfter textPart (stubOf (readsReal 6)) case4 (texting "0x0 i 0x1008 0x0") → ⊥
+texts-real : SaysAfter workedSetup textPart (stubOf (readsReal 6)) case4 (texting "0x0 i 0x1008 0x0") → ⊥
 unfolding claim-computes
 texts-real c = apart (c zeroed (codes "0x0 i 0x1008 0x0") (replicate 34 0) wordAsked refl refl refl refl refl) refl
 
 stores-no-word : RealAfter (stubOf storesNoWord) (case4 ++ (texting "0x0 D 0x1008 0x1" ∷ [])) → ⊥
 unfolding claim-computes
 stores-no-word c = apart c refl
+
+-- 02, Five
+writes-protected : SaysAfter guardedSetup protectedPart (stubOf protectsNothing) []
+    (asking 0x04_0000100e_03_aabbcc00) → ⊥
+unfolding claim-computes
+writes-protected c = apart (ap one (c 16 refl)) refl
+
+plants-protected : SaysAfter guardedSetup protectedPart (stubOf protectsNothing)
+    (asking 0x10_00000003_6e000000_00 ∷ []) (asking 0x10_00001010_62000000_00) → ⊥
+unfolding claim-computes
+plants-protected c = apart (ap one (c 16 refl)) refl
+
+texts-protected : SaysAfter guardedSetup protectedPart (stubOf protectsNothing) [] (texting "0x0 D 0x1014 0x1") → ⊥
+unfolding claim-computes
+texts-protected c = apart (ap one (c 20 refl)) refl
 
 pub stubs : (r : Reason) → AllShut (stubRows r)
 unfolding stubRows SaysRow
@@ -202,4 +228,7 @@ stubs r =
     by-row _ texts-real &
     by-row _ stores-no-word &
     by-row _ always-unfit &
+    by-row _ writes-protected &
+    by-row _ plants-protected &
+    by-row _ texts-protected &
     none

@@ -1,15 +1,16 @@
 -- What a text request gives, case by case: refused, a word or a register read, a word or a register written. Assumes
 -- nothing.
 use mathlib.Core.Path.{_≡_, refl}
-use mathlib.Core.Bool.{Bool, cond}
+use mathlib.Core.Bool.{Bool, false, cond}
 use mathlib.Core.List.{List}
-use Prim.Native.Nat.{ℕ, _%_}
+use Prim.Native.Nat.{ℕ, _-_, _%_}
 use lib.Dec.{eqb, leb, ltb}
 use Rattle.common.proofs.Cases.{choose}
 use Rattle.condition.specs.Evaluate.{fetchOf}
 use Rattle.condition.specs.declared.Fetched.{Fetched}
 use Rattle.condition.specs.declared.Fetched.the-variants.{Word, Outside}
 use Rattle.memory.specs.Head.{Head}
+use Rattle.memory.specs.Place.{hasProtected}
 use Rattle.target_fit.specs.Fit.{processAt}
 use Rattle.text_packet.specs.declared.Packet.{Packet}
 use Rattle.rules.specs.declared.TextKind.{TextKind}
@@ -18,8 +19,8 @@ use Rattle.rules.specs.Outcome.{World, world}
 use Rattle.rules.specs.Record.{indexOf, isStopped}
 use Rattle.rules.specs.Breakpoint.{sites, plains}
 use Rattle.rules.specs.Request.{windowWritten}
-use Rattle.rules.specs.Text.{Response, completed, failedWith, esrch, efault, ebusy, einval, textKind, onFetched}
-use Rattle.rules.specs.Text.{onWord, onRegister, registerAt, registerWritten, onPid, responseBy}
+use Rattle.rules.specs.Text.{Response, completed, failedWith, esrch, eacces, efault, ebusy, einval, textKind}
+use Rattle.rules.specs.Text.{onFetched, onWord, onWritable, onRegister, registerAt, registerWritten, onPid, responseBy}
 
 -- the plain word at an address
 abbrev pub fetched : Head → World → ℕ → Fetched
@@ -30,6 +31,7 @@ pub data TextCase (head : Head) (w : World) (p : Packet) : Response → Type 0 w
   word-read : (v : ℕ) → textKind (p .letter) ≡ ReadWord → fetched head w (p .third) ≡ Word v
       → TextCase head w p (completed v w)
   word-written : (v : ℕ) → textKind (p .letter) ≡ WriteWord → fetched head w (p .third) ≡ Word v
+      → hasProtected (w .target .protected) (p .third - w .target .base) 4 ≡ false
       → TextCase head w p (completed v (windowWritten head w (p .third) (head .bytes (p .fourth))))
   register-read : (v : ℕ) → textKind (p .letter) ≡ ReadRegister → TextCase head w p (completed v w)
   register-written : (v : ℕ) (regs : List ℕ) → textKind (p .letter) ≡ WriteRegister
@@ -53,6 +55,13 @@ module _ (head : Head) (w : World) (p : Packet) where
       by (Word v) e = h v e
       by Outside e = refusing efault
 
+  on-writable : (r : Response)
+      → (hasProtected (w .target .protected) (p .third - w .target .base) 4 ≡ false → Gives r)
+      → Gives (onWritable w (p .third) r)
+  unfolding onWritable
+  on-writable r h =
+      choose Gives (hasProtected (w .target .protected) (p .third - w .target .base) 4) (λ e. refusing eacces) h
+
   on-register : (numbered : Bool) (f : ℕ → Response) → ((b : ℕ) → Gives (f b)) → Gives (onRegister w numbered f)
   unfolding onRegister
   on-register numbered f h =
@@ -69,7 +78,7 @@ module _ (head : Head) (w : World) (p : Packet) where
     where
       by : (k : TextKind) → textKind (p .letter) ≡ k → Gives (responseBy head k w p)
       by ReadWord e = on-pid _ (on-word _ (λ v q. word-read v e q))
-      by WriteWord e = on-pid _ (on-word _ (λ v q. word-written v e q))
+      by WriteWord e = on-pid _ (on-word _ (λ v q. on-writable _ (λ f. word-written v e q f)))
       by ReadRegister e = on-pid _ (on-register _ _ (λ b. register-read _ e))
       by WriteRegister e = on-pid _ (on-register _ _ (λ b. register-written _ _ e))
       by Unlisted e = refusing einval

@@ -1,14 +1,14 @@
 -- Demand 3, over any head: over every list of steps after an accepted setup, real memory and every answer are the
 -- book's. The relation (Agree.antt) holds after setup, and every step and every outside change keeps it; what is
 -- claimed follows from it.
-use mathlib.Core.Path.{_≡_, refl, sym, _∙_}
+use mathlib.Core.Path.{_≡_, refl, sym, ap, _∙_}
 use native.Mathlib.Omega.{arith}
 use mathlib.Core.Bool.{true, false}
 use mathlib.Core.List.{List, [], _∷_}
 use mathlib.Core.Option.{none}
 use Prim.Native.Nat.{ℕ}
 use borrow.Author.Tests.{eqb-false}
-use lib.ListN.{set}
+use lib.ListN.{set, getD}
 use Rattle.memory.proofs.Lawful.{house-lawful}
 use Rattle.memory.specs.Head.{Head, width, Lawful}
 use Rattle.memory.specs.Overlay.{covered}
@@ -19,8 +19,10 @@ use Rattle.wire.specs.declared.Message.the-variants.{Tmget, Tstart}
 use Rattle.rules.specs.Outcome.{Outcome, answered}
 use Rattle.rules.specs.Breakpoint.{sites}
 use Rattle.rules.specs.Step.{setupTarget, Step, request, trapEvent, restartStep, textStep, stepOf}
-use Rattle.rules.specs.Book.{Book, inWindow, readBy, startBy, opened, withPlain, fed, underTrap}
-use Rattle.rules.specs.Step.{Setup, setupBy, isAccepted}
+use Rattle.rules.specs.Book.{Book, inWindow, readBy, startBy, opened, withPlain, fed, realBy, underTrap}
+use Rattle.rules.specs.Step.{Setup, setupBy, stretchOf, isAccepted}
+use Rattle.memory.specs.Place.{isProtected}
+use Rattle.rules.proofs.Protected.{keeps-protected}
 use Rattle.rules.specs.Claim.{stubOf, Says, Right, Action, step, change, Claim, Demand3}
 use Rattle.rules.proofs.Facts.{Good}
 use Rattle.rules.proofs.FitFacts.{facts-of, fit-facts}
@@ -54,7 +56,7 @@ use Rattle.rules.specs.Claims.{Claims}
 
 module _ (s : Setup) where
   abbrev begun : Target
-  begun = setupTarget (s .base) (s .size) (s .pids) (s .addresses) (s .count)
+  begun = setupTarget (s .base) (s .size) (s .from) (s .to) (s .pids) (s .addresses) (s .count)
 
   -- its record follows the book that is opened
   follows-setup : {head : Head} → Good head begun (s .mem) → Follows head s (opened s) begun (s .mem)
@@ -64,6 +66,7 @@ module _ (s : Setup) where
       record {
         base = refl;
         size = refl;
+        protected = refl;
         count = refl;
         pids = pids-begun (s .pids) (s .addresses) (s .count) (f .few) (f .pids);
         plain = plain-fresh (good .lawful) (s .base) (s .mem);
@@ -73,17 +76,17 @@ module _ (s : Setup) where
       }
 
   agree-taken : {head : Head} {o : Outcome}
-      → SetUp (s .base) (s .size) (s .pids) (s .addresses) (s .count) (s .mem) (s .regs) o
+      → SetUp (s .base) (s .size) (s .from) (s .to) (s .pids) (s .addresses) (s .count) (s .mem) (s .regs) o
       → Good head (o .after .target) (s .mem) → o .number ≡ 0 → Agree head s (opened s) (o .after .target) (s .mem)
   unfolding answered
-  agree-taken (taken e f z) good n = record { good = good; follows = follows-setup good }
+  agree-taken (taken e g f z) good n = record { good = good; follows = follows-setup good }
   agree-taken (emptied n h) good z = absurd (eqb-false n 0 h z)
 
   pub agree-setup : (head : Head) → Lawful head → setupBy s .number ≡ 0
       → Agree head s (opened s) (setupBy s .after .target) (s .mem)
   unfolding setupBy
   agree-setup head law h =
-      agree-taken (set-up (s .base) (s .size) (s .pids) (s .addresses) (s .count) (s .mem) (s .regs))
+      agree-taken (set-up (s .base) (s .size) (s .from) (s .to) (s .pids) (s .addresses) (s .count) (s .mem) (s .regs))
       (good-setup head law s h) h
 
 -- ---- every list
@@ -121,6 +124,14 @@ right-start {head} s b t mem a regs bytes buffer pid m z =
     right-step s b t mem a (request regs bytes buffer) z in
     rw m at given
 
+-- a protected byte stays
+right-protected : {head : Head} (s : Setup) (b : Book) (t : Target) (mem : List ℕ) → Agree head s b t mem → (e : Step)
+    → (i : ℕ) → isProtected (stretchOf (s .base) (s .from) (s .to)) i ≡ true
+    → getD (stepOf head t mem e .after .mem) i 0 ≡ getD (realBy head s b) i 0
+right-protected s b t mem a e i q =
+    keeps-protected t mem (a .good) e i (rw (a .follows .protected) q)
+    ∙ ap (λ l. getD l i 0) (real-memory s b t mem a)
+
 -- a step of the rules is right
 pub right : {head : Head} (s : Setup) (b : Book) (t : Target) (mem : List ℕ) → Agree head s b t mem → (e : Step)
     → let o = stepOf head t mem e in Right head s b e o (stubOf (stepOf head) .act t mem e .1)
@@ -136,6 +147,7 @@ right s b t mem a e = record {
   trapped = λ x y z q. rw q (trap-number s b t mem a _ _ _);
   restart = λ x y q. rw q (right-step s b t mem a (restartStep _ _));
   text = λ x y z p q. rw q (right-step s b t mem a (textStep _ _ _) p);
+  protected = λ i q. right-protected s b t mem a e i q;
 }
 
 -- what is claimed holds wherever the relation does
@@ -176,16 +188,16 @@ held-all (change i byte ∷ es) s b y t mem a c =
 
 -- a setup leaves a fresh table
 counts-taken : {s : Setup} {o : Outcome}
-    → SetUp (s .base) (s .size) (s .pids) (s .addresses) (s .count) (s .mem) (s .regs) o
+    → SetUp (s .base) (s .size) (s .from) (s .to) (s .pids) (s .addresses) (s .count) (s .mem) (s .regs) o
     → Counts (o .after .target .table) noneHeld
 unfolding answered setupTarget
-counts-taken (taken e f z) = counts-fresh
+counts-taken (taken e g f z) = counts-fresh
 counts-taken (emptied n h) = counts-fresh
 
 counts-setup : (s : Setup) → Counts (setupBy s .after .target .table) noneHeld
 unfolding setupBy
 counts-setup s = counts-taken {s = s}
-    (set-up (s .base) (s .size) (s .pids) (s .addresses) (s .count) (s .mem) (s .regs))
+    (set-up (s .base) (s .size) (s .from) (s .to) (s .pids) (s .addresses) (s .count) (s .mem) (s .regs))
 
 pub places : (head : Head) → Lawful head → PlacesHeld head (stubOf (stepOf head)) ruledPlaces
 places head law s h es =

@@ -22,7 +22,7 @@ use Rattle.memory.specs.Overlay.{covered, laidOver}
 use Rattle.memory.specs.Place.{placeOf}
 use Rattle.memory.specs.Write.{bytesAt, overwritten}
 use Rattle.memory.specs.declared.Place.{Place}
-use Rattle.memory.specs.declared.Place.the-variants.{Registers, Window, Nowhere}
+use Rattle.memory.specs.declared.Place.the-variants.{Registers, Window, Protected, Nowhere}
 use Rattle.request_parse.specs.Request.{parseOf}
 use Rattle.request_parse.specs.declared.Parsed.{Parsed}
 use Rattle.request_parse.specs.declared.Parsed.the-variants.{Request, Refused, NotTen}
@@ -101,6 +101,7 @@ others x (y ∷ ys) = cond (eqb y x) (others x ys) (y ∷ others x ys)
 unfoldable pub intoWindow : Place → Bool
 intoWindow Registers = false
 intoWindow Window = true
+intoWindow Protected = false
 intoWindow Nowhere = false
 
 -- n bytes at an address lie in the window; of no bytes none do

@@ -8,16 +8,18 @@ use mathlib.Core.Path.{_≡_}
 use mathlib.Core.Bool.{true, false}
 use mathlib.Core.List.{List, [], _∷_}
 use Prim.Native.Nat.{ℕ}
-use lib.ListN.{set}
+use lib.ListN.{set, getD}
 use Rattle.common.specs.Numbers.{accepted, notFit}
 use Rattle.memory.specs.Head.{Head}
+use Rattle.memory.specs.Place.{isProtected}
 use Rattle.request_parse.specs.Request.{parseOf}
 use Rattle.request_parse.specs.declared.Parsed.the-variants.{Request}
 use Rattle.target.specs.View.{Target}
 use Rattle.wire.specs.declared.Message.the-variants.{Tmget, Tstart}
 use Rattle.rules.specs.declared.Answer.{Answer}
 use Rattle.rules.specs.Outcome.{Outcome}
-use Rattle.rules.specs.Step.{Setup, setupBy, isAccepted, Step, request, trapEvent, restartStep, textStep, stepOf}
+use Rattle.rules.specs.Step.{Setup, setupBy, stretchOf, isAccepted, Step, request, trapEvent, restartStep}
+use Rattle.rules.specs.Step.{textStep, stepOf}
 use Rattle.rules.specs.Text.{textKind, isCompleted}
 use Rattle.rules.specs.Book.{Book, opened, withPlain, fed, inWindow, readBy, realBy, underTrap, trapBy}
 use Rattle.rules.specs.Book.{trapNumber, startBy, wordReplyBy, isWord}
@@ -65,6 +67,7 @@ pub data Part : Type 0 where
   startPart : Part
   restartPart : Part
   textPart : Part
+  protectedPart : Part
 
 unfoldable pub Says : Part → Head → Setup → Book → Step → Outcome → Shown → Type 0
 -- the number, the answer and the reply are those that the rules give
@@ -97,6 +100,10 @@ Says textPart h s b e r o =
     (regs bytes buffer : List ℕ) (p : Packet) → e ≡ textStep regs bytes buffer → readOf bytes ≡ Accepted p
     → isWord (textKind (p .letter)) ≡ true → o .number ≡ accepted → isCompleted (o .answer) ≡ true
     → o .reply ≡ wordReplyBy h s b p buffer
+-- 02, Five: "no step changes a protected byte of real memory", which before the step is the book's
+Says protectedPart h s b e r o =
+    (i : ℕ) → isProtected (stretchOf (s .base) (s .from) (s .to)) i ≡ true
+    → getD (o .mem) i 0 ≡ getD (realBy h s b) i 0
 
 pub record Right (h : Head) (s : Setup) (b : Book) (e : Step) (r : Outcome) (o : Shown) : Type 0 where
   pub number : Says numberPart h s b e r o
@@ -109,6 +116,7 @@ pub record Right (h : Head) (s : Setup) (b : Book) (e : Step) (r : Outcome) (o :
   pub start : Says startPart h s b e r o
   pub restart : Says restartPart h s b e r o
   pub text : Says textPart h s b e r o
+  pub protected : Says protectedPart h s b e r o
 
 -- ---- lists: a step with everything that is lent to it, or an outside change of one byte of memory, by its offset
 

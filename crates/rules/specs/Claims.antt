@@ -44,6 +44,7 @@ pub record Kept (before after : World) : Type 0 where
   pub entries : after .target .table .entries ≡ before .target .table .entries
   pub base : after .target .base ≡ before .target .base
   pub size : after .target .size ≡ before .target .size
+  pub protected : after .target .protected ≡ before .target .protected
   pub count : after .target .count ≡ before .target .count
   pub processes : after .target .processes ≡ before .target .processes
   pub selected : after .target .selected ≡ before .target .selected

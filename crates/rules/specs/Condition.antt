@@ -1,5 +1,5 @@
 -- 01, "Conditions in Reverse Polish (Tcondbreak)": the requests n, b, d and the elements.
-use Prim.Native.Nat.{ℕ}
+use Prim.Native.Nat.{ℕ, _-_}
 use Prim.Native.Char.{code}
 use mathlib.Core.Bool.{Bool, cond, not, _&&_, _||_}
 use mathlib.Core.List.{[]}
@@ -11,7 +11,7 @@ use Rattle.condition.specs.declared.Room.{Room}
 use Rattle.condition.specs.declared.Room.the-variants.{Fits, Full, Short}
 use Rattle.target_fit.specs.Fit.{entryOf, heldOf}
 use Rattle.memory.specs.Head.{Head, width}
-use Rattle.memory.specs.Place.{isSite}
+use Rattle.memory.specs.Place.{isSite, hasProtected}
 use Rattle.target.specs.Limits.{maxId}
 use Rattle.target.specs.Free.{firstFree}
 use Rattle.target.specs.Fresh.{closedDraft}
@@ -19,7 +19,7 @@ use Rattle.target.specs.View.{Draft}
 use Rattle.target.specs.declared.Element.{Element}
 use Rattle.wire.specs.declared.Message.the-variants.{Rcondbreak}
 use Rattle.wire_text.specs.declared.Reason.{Reason}
-use Rattle.wire_text.specs.declared.Reason.the-variants.{Count, Inval}
+use Rattle.wire_text.specs.declared.Reason.the-variants.{Count, Inval, Unsup}
 use Rattle.rules.specs.Outcome.{World, world, Outcome, replied, error}
 use Rattle.rules.specs.Record.{withDraft}
 use Rattle.rules.specs.Breakpoint.{breakpointAt, planted, removed}
@@ -68,12 +68,15 @@ siteFree h w val =
     let es = t .table .entries in
     isSite (width h) (t .base) (t .size) val && leb (length es) (breakpointAt es val)
 
--- "b val: nothing in hand, odd or outside site, site taken, or depth not 1: inval"
+-- "b val: nothing in hand, odd or outside site, site taken, or depth not 1: inval". 02, Five: "a b whose site has one, is
+-- unsup ..; for b after taken, before depth"
 unfoldable pub setBreakpoint : Head → World → ℕ → Outcome
 setBreakpoint h w val =
-    let d = w .target .table .draft in
-    let fits = inHand w && siteFree h w val && wellFormed (d .elements) in
-    cond fits (replied Rcondbreak (planted h w val)) (failed Inval w)
+    let t = w .target in
+    cond (inHand w && siteFree h w val)
+    (cond (hasProtected (t .protected) (val - t .base) (width h)) (failed Unsup w)
+    (cond (wellFormed (t .table .draft .elements)) (replied Rcondbreak (planted h w val)) (failed Inval w)))
+    (failed Inval w)
 
 -- "d val: the breakpoint is removed .. Unknown id: inval. The condition in hand stays in either case"
 unfoldable pub deleteBreakpoint : Head → World → ℕ → Outcome

@@ -76,6 +76,7 @@ abbrev pub afterRestart : Target → Target
 afterRestart t = record {
   base = t .base;
   size = t .size;
+  protected = t .protected;
   count = t .count;
   selected = 0;
   current = 0;

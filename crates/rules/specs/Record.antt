@@ -19,6 +19,7 @@ unfoldable pub withTable : Target → Table → Target
 withTable t u = record {
   base = t .base;
   size = t .size;
+  protected = t .protected;
   count = t .count;
   processes = t .processes;
   selected = t .selected;
@@ -30,6 +31,7 @@ unfoldable pub withProcesses : Target → List Process → Target
 withProcesses t ps = record {
   base = t .base;
   size = t .size;
+  protected = t .protected;
   count = t .count;
   processes = ps;
   selected = t .selected;
@@ -41,6 +43,7 @@ unfoldable pub withCurrent : Target → ℕ → ℕ → Target
 withCurrent t selected pid = record {
   base = t .base;
   size = t .size;
+  protected = t .protected;
   count = t .count;
   processes = t .processes;
   selected = selected;

@@ -8,10 +8,11 @@ use lib.ListN.{getD, take, drop}
 use Rattle.common.specs.Numbers.{wrongSize}
 use Rattle.common.specs.Same.{allZero}
 use Rattle.memory.specs.Head.{Head, width}
-use Rattle.memory.specs.Place.{placeOf}
+use Rattle.memory.specs.Place.{namedBy}
 use Rattle.memory.specs.Write.{bytesAt, plainRead, overwritten, memAfter, plainAfter}
 use Rattle.memory.specs.declared.Place.{Place}
-use Rattle.memory.specs.declared.Place.the-variants.{Registers, Window, Nowhere}
+use Rattle.memory.specs.declared.Place.the-variants.{Registers, Window, Protected, Nowhere}
+use Rattle.memory.specs.declared.Access.the-variants.{Read, Write}
 use Rattle.target_fit.specs.Fit.{processAt}
 use Rattle.request_parse.specs.declared.Parsed.{Parsed}
 use Rattle.request_parse.specs.declared.Parsed.the-variants.{Request, Refused, NotTen}
@@ -26,7 +27,7 @@ use Rattle.wire.specs.declared.Message.the-variants.{Tmget, Tmput, Tproc, Tstat
 use Rattle.wire.specs.declared.Message.the-variants.{Rerr, Rmget, Rmput, Rproc, Rstatus, Rrnote, Rstop, Rstart}
 use Rattle.wire.specs.declared.Message.the-variants.{Rcondbreak}
 use Rattle.wire_text.specs.declared.Reason.{Reason}
-use Rattle.wire_text.specs.declared.Reason.the-variants.{Inval, Pid, Notstop}
+use Rattle.wire_text.specs.declared.Reason.the-variants.{Inval, Pid, Unsup, Notstop}
 use Rattle.rules.specs.Outcome.{World, world, Outcome, repliedWith, replied, error, refused}
 use Rattle.rules.specs.Record.{ready, withEntries, withCurrent, indexOf, setState, isStopped, blockAt, pcOf}
 use Rattle.rules.specs.Breakpoint.{sites, plains, passAt}
@@ -62,13 +63,15 @@ gotFrom h Registers w addr n = onBlock w (λ i. replied (Rmget (data9Of (bytesAt
 gotFrom h Window w addr n =
     let t = w .target in
     replied (Rmget (data9Of (plainRead (width h) (sites t) (plains t) (w .mem) (addr - t .base) n 9))) w
+gotFrom h Protected w addr n = error Unsup w
 gotFrom h Nowhere w addr n = error Inval w
 
 -- "With n = 0 nothing else is looked at: served, nothing changed"
 unfoldable pub mget : Head → World → ℕ → ℕ → Outcome
 mget h w addr n =
     let t = w .target in
-    cond (eqb n 0) (replied (Rmget (data9Of [])) w) (gotFrom h (placeOf (t .base) (t .size) addr n) w addr n)
+    cond (eqb n 0) (replied (Rmget (data9Of [])) w) 
+    (gotFrom h (namedBy Read (t .protected) (t .base) (t .size) addr n) w addr n)
 
 -- ---- Tmput: "writes n bytes; a byte under a trap goes to the entry's plain bytes and the trap stays"
 
@@ -95,18 +98,21 @@ windowWritten h w addr bytes =
     world (withEntries t (withPlains (t .table .entries) (plainAfter (width h) (sites t) (plains t) at bytes)))
     (memAfter (width h) (sites t) (w .mem) at bytes) (w .regs)
 
--- "A write that touches 0 to 3 (register zero) is inval, before pid"
+-- "A write that touches 0 to 3 (register zero) is inval, before pid". 02, Five: "a Tmput touching a protected byte .. is
+-- unsup, right after the address"
 unfoldable pub putTo : Head → Place → World → ℕ → List ℕ → Outcome
 putTo h Registers w addr bytes =
     cond (leb addr 3) (error Inval w)
     (onBlock w (λ i. replied Rmput (world (w .target) (w .mem) (overwritten (w .regs) (blockSize * i + addr) bytes))))
 putTo h Window w addr bytes = replied Rmput (windowWritten h w addr bytes)
+putTo h Protected w addr bytes = error Unsup w
 putTo h Nowhere w addr bytes = error Inval w
 
 unfoldable pub mput : Head → World → ℕ → ℕ → Data4 → Outcome
 mput h w addr n d =
     let t = w .target in
-    cond (eqb n 0) (replied Rmput w) (putTo h (placeOf (t .base) (t .size) addr n) w addr (take n (bytes4 d)))
+    cond (eqb n 0) (replied Rmput w)
+    (putTo h (namedBy Write (t .protected) (t .base) (t .size) addr n) w addr (take n (bytes4 d)))
 
 -- ---- "An unlisted pid in these five: pid"
 

@@ -1,19 +1,20 @@
 -- 01, "Steps and numbers": every step, for every record and every input. "Checks go in the order of the numbers."
 -- What comes to a trap's bytes or to a word in memory takes the head h (Head.antt of memory) first, here and in the
 -- files below.
-use Prim.Native.Nat.{ℕ, _*_}
+use Prim.Native.Nat.{ℕ, _-_, _*_}
 use mathlib.Core.Bool.{Bool, true, cond, not, _&&_}
 use mathlib.Core.List.{List, []}
 use lib.Dec.{ltb, eqb}
 use lib.ListN.{length, getD}
 use Rattle.common.specs.Numbers.{accepted, brokenSetup, wrongSize, notFit}
 use Rattle.common.specs.Tab.{tab}
-use Rattle.target_fit.specs.Fit.{windowFit, processesFit, fitOf}
+use Rattle.target_fit.specs.Fit.{windowFit, boundsFit, processesFit, fitOf}
 use Rattle.memory.specs.Head.{Head}
 use Rattle.request_parse.specs.Request.{parseOf}
 use Rattle.target.specs.Limits.{blockSize, maxProcesses}
 use Rattle.target.specs.Fresh.{noProcess, freshTable, emptyTarget}
 use Rattle.target.specs.declared.Process.{Process}
+use Rattle.target.specs.declared.Stretch.{Stretch}
 use Rattle.target.specs.View.{Target}
 use Rattle.rules.specs.declared.Answer.the-variants.{Nothing}
 use Rattle.rules.specs.Outcome.{World, world, Outcome, outcome, answered, refused}
@@ -30,10 +31,15 @@ beginning pids addresses count i =
     cond (ltb i count) (record { pid = getD pids i 0; address = getD addresses i 0; state = ready; wanted = 0 })
     noProcess
 
-unfoldable pub setupTarget : ℕ → ℕ → List ℕ → List ℕ → ℕ → Target
-setupTarget base size pids addresses count = record {
+-- 02, Five: the stretch from one address to before another, in a window at base
+abbrev pub stretchOf : ℕ → ℕ → ℕ → Stretch
+stretchOf base from to = record { offset = from - base; length = to - from }
+
+unfoldable pub setupTarget : ℕ → ℕ → ℕ → ℕ → List ℕ → List ℕ → ℕ → Target
+setupTarget base size from to pids addresses count = record {
   base = base;
   size = size;
+  protected = stretchOf base from to;
   count = count;
   processes = tab maxProcesses (beginning pids addresses count);
   selected = 0;
@@ -41,11 +47,13 @@ setupTarget base size pids addresses count = record {
   table = freshTable;
 }
 
--- number 1: "setup rule broken", then number 2; "the record is empty". "An accepted setup changes no lent buffer"
-unfoldable pub setupOf : ℕ → ℕ → List ℕ → List ℕ → ℕ → List ℕ → List ℕ → Outcome
-setupOf base size pids addresses count mem regs =
-    let t = setupTarget base size pids addresses count in
-    cond (windowFit base size && processesFit (t .processes) count)
+-- number 1: "setup rule broken", then number 2; "the record is empty". "An accepted setup changes no lent buffer". 02,
+-- Five: "Setup takes one protected stretch: from and to are multiples of 4, and B, from, to, B + M never fall; else
+-- number 1"
+unfoldable pub setupOf : ℕ → ℕ → ℕ → ℕ → List ℕ → List ℕ → ℕ → List ℕ → List ℕ → Outcome
+setupOf base size from to pids addresses count mem regs =
+    let t = setupTarget base size from to pids addresses count in
+    cond (windowFit base size && boundsFit base size from to && processesFit (t .processes) count)
     (cond (eqb (length mem) size && eqb (length regs) (blockSize * count)) (answered Nothing (world t mem regs))
     (outcome wrongSize Nothing (world emptyTarget mem regs) []))
     (outcome brokenSetup Nothing (world emptyTarget mem regs) [])
@@ -54,6 +62,8 @@ setupOf base size pids addresses count mem regs =
 pub record Setup : Type 0 where
   pub base : ℕ
   pub size : ℕ
+  pub from : ℕ
+  pub to : ℕ
   pub pids : List ℕ
   pub addresses : List ℕ
   pub count : ℕ
@@ -61,7 +71,8 @@ pub record Setup : Type 0 where
   pub regs : List ℕ
 
 unfoldable pub setupBy : Setup → Outcome
-setupBy s = setupOf (s .base) (s .size) (s .pids) (s .addresses) (s .count) (s .mem) (s .regs)
+setupBy s =
+    setupOf (s .base) (s .size) (s .from) (s .to) (s .pids) (s .addresses) (s .count) (s .mem) (s .regs)
 
 -- ---- the checks of every other step
 

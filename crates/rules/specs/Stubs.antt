@@ -25,14 +25,15 @@ use Rattle.rules.specs.Record.{withEntries}
 use Rattle.rules.specs.Request.{withPlains}
 use Rattle.rules.specs.Condition.{dropped}
 use Rattle.rules.specs.Breakpoint.{sites, plainMemory, removed}
-use Rattle.rules.specs.Step.{setupBy, Step, request, trapEvent, scheduleEvent, stateEvent, restartStep}
+use Rattle.target.specs.Fresh.{nothing}
+use Rattle.rules.specs.Step.{Setup, setupBy, Step, request, trapEvent, scheduleEvent, stateEvent, restartStep}
 use Rattle.rules.specs.Step.{textStep, stepOf}
 use Rattle.common.specs.Text.{codes}
 use Rattle.text_packet.specs.Packet.{textMost}
 use Rattle.rules.specs.Book.{Book, opened, fed, realBy}
 use Rattle.rules.specs.Claim.{Stub, stubOf, Part, Says}
 use Rattle.rules.specs.Claim.{numberPart, answerPart, replyPart, fitPart, readsPart, trappedPart, trapPart}
-use Rattle.rules.specs.Claim.{startPart, restartPart, textPart}
+use Rattle.rules.specs.Claim.{startPart, restartPart, textPart, protectedPart}
 use Rattle.rules.specs.Worked.{workedSetup}
 
 abbrev pub Acts : Type 0
@@ -146,6 +147,19 @@ keepsTraps = changing 5
 unfoldable pub storesNoWord : Acts
 storesNoWord = changing 6 (λ t mem e o. outcome (o .number) (o .answer) (world t mem (o .after .regs)) (o .reply))
 
+-- takes no byte for protected
+unfoldable pub protectsNothing : Acts
+protectsNothing t mem e = stepOf house (record {
+  base = t .base;
+  size = t .size;
+  protected = nothing;
+  count = t .count;
+  processes = t .processes;
+  selected = t .selected;
+  current = t .current;
+  table = t .table;
+}) mem e
+
 -- calls every record unfit
 unfoldable pub alwaysUnfit : Acts
 alwaysUnfit t mem e = let o = stepOf house t mem e in outcome notFit Nothing (world t mem (o .after .regs)) []
@@ -158,21 +172,21 @@ pub record Stage (f : Stub) : Type 0 where
   pub own : f .Own
   pub mem : List ℕ
 
-abbrev pub firstStage : (f : Stub) → Stage f
-firstStage f = record {
-  book = opened workedSetup;
-  target = setupBy workedSetup .after .target;
-  own = f .begin workedSetup;
-  mem = workedSetup .mem;
+abbrev pub firstStage : (s : Setup) (f : Stub) → Stage f
+firstStage s f = record {
+  book = opened s;
+  target = setupBy s .after .target;
+  own = f .begin s;
+  mem = s .mem;
 }
 
-unfoldable pub passed : (f : Stub) → Stage f → List Step → Stage f
-passed f g [] = g
-passed f g (e ∷ es) =
+unfoldable pub passed : (s : Setup) (f : Stub) → Stage f → List Step → Stage f
+passed s f g [] = g
+passed s f g (e ∷ es) =
     let (x, o) = f .act (g .own) (g .mem) e in
-    let r = stepOf house (g .target) (realBy house workedSetup (g .book)) e in
-    passed f (record {
-      book = fed house workedSetup (g .book) e (o .number) (o .answer) (o .reply);
+    let r = stepOf house (g .target) (realBy house s (g .book)) e in
+    passed s f (record {
+      book = fed house s (g .book) e (o .number) (o .answer) (o .reply);
       target = r .after .target;
       own = x;
       mem = o .mem;
@@ -181,30 +195,50 @@ passed f g (e ∷ es) =
 -- ---- what the claim says after steps
 
 -- a part of it of the step after them
-unfoldable pub SaysAfter : Part → (f : Stub) → List Step → Step → Type 0
-SaysAfter p f es e =
-    let g = passed f (firstStage f) es in
-    Says p house workedSetup (g .book) e (stepOf house (g .target) (realBy house workedSetup (g .book)) e)
+unfoldable pub SaysAfter : Setup → Part → (f : Stub) → List Step → Step → Type 0
+SaysAfter s p f es e =
+    let g = passed s f (firstStage s f) es in
+    Says p house s (g .book) e (stepOf house (g .target) (realBy house s (g .book)) e)
     (f .act (g .own) (g .mem) e .1)
 
 -- its end: real memory is the book's
 unfoldable pub RealAfter : (f : Stub) → List Step → Type 0
-RealAfter f es = let g = passed f (firstStage f) es in g .mem ≡ realBy house workedSetup (g .book)
+RealAfter f es =
+    let g = passed workedSetup f (firstStage workedSetup f) es in
+    g .mem ≡ realBy house workedSetup (g .book)
 
 -- ---- the table
+
+-- the worked setup with eight bytes protected: 4,112 to 4,119
+abbrev pub guardedSetup : Setup
+guardedSetup = record {
+  base = workedSetup .base;
+  size = workedSetup .size;
+  from = 4_112;
+  to = 4_120;
+  pids = workedSetup .pids;
+  addresses = workedSetup .addresses;
+  count = workedSetup .count;
+  mem = workedSetup .mem;
+  regs = workedSetup .regs;
+}
 
 pub data StubRow : Type 0 where
   -- a part of the claim is false of the last step
   part : Part → Acts → List Step → Step → StubRow
+  -- the same after the setup that protects eight bytes
+  guarded : Part → Acts → List Step → Step → StubRow
   -- after the steps real memory is not the book's
   memory : Acts → List Step → StubRow
 
 unfoldable pub actsOf : StubRow → Acts
 actsOf (part p f es e) = f
+actsOf (guarded p f es e) = f
 actsOf (memory f es) = f
 
 unfoldable pub SaysRow : StubRow → Type 0
-SaysRow (part p f es e) = SaysAfter p (stubOf f) es e
+SaysRow (part p f es e) = SaysAfter workedSetup p (stubOf f) es e
+SaysRow (guarded p f es e) = SaysAfter guardedSetup p (stubOf f) es e
 SaysRow (memory f es) = RealAfter (stubOf f) es
 
 -- a register area of zeros, and a request, its ten bytes given as one number
@@ -291,4 +325,8 @@ stubRows r =
     part restartPart keepsTraps case4 restartNow ∷
     part textPart (readsReal 6) case4 (texting "0x0 i 0x1008 0x0") ∷
     memory storesNoWord (case4 ++ (texting "0x0 D 0x1008 0x1" ∷ [])) ∷
-    part fitPart alwaysUnfit [] case1 ∷ []
+    part fitPart alwaysUnfit [] case1 ∷
+    -- 02, Five: one that lets a Tmput, a b or a text write through
+    guarded protectedPart protectsNothing [] (asking 0x04_0000100e_03_aabbcc00) ∷
+    guarded protectedPart protectsNothing (asking 0x10_00000003_6e000000_00 ∷ []) (asking 0x10_00001010_62000000_00) ∷
+    guarded protectedPart protectsNothing [] (texting "0x0 D 0x1014 0x1") ∷ []

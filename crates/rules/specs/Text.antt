@@ -1,6 +1,6 @@
 -- 02, Three: "Add the dialect of four fields of source document 004 over the same record". Requests and replies are
 -- packets (Packet.antt of text_packet); third is the address or number of the register, fourth the data.
-use Prim.Native.Nat.{ℕ, _+_, _*_, _%_}
+use Prim.Native.Nat.{ℕ, _+_, _-_, _*_, _%_}
 use Prim.Native.Char.{code}
 use mathlib.Core.Bool.{Bool, true, false, cond, not, _&&_, _||_}
 use mathlib.Core.List.{List}
@@ -12,6 +12,7 @@ use Rattle.condition.specs.Evaluate.{fetchOf}
 use Rattle.condition.specs.declared.Fetched.{Fetched}
 use Rattle.condition.specs.declared.Fetched.the-variants.{Word, Outside}
 use Rattle.memory.specs.Head.{Head}
+use Rattle.memory.specs.Place.{hasProtected}
 use Rattle.memory.specs.Write.{overwritten}
 use Rattle.target_fit.specs.Fit.{processAt}
 use Rattle.target.specs.Limits.{blockSize}
@@ -35,6 +36,10 @@ use Rattle.rules.specs.Request.{windowWritten}
 -- "PID must be 0 (else errno 3)"; "none current 3"
 abbrev pub esrch : ℕ
 esrch = 3
+
+-- 02, Five: "In Three it is errno 13"
+abbrev pub eacces : ℕ
+eacces = 13
 
 -- "a word not all in the window is 14"
 abbrev pub efault : ℕ
@@ -87,6 +92,12 @@ onWord h w address f =
     cond (eqb (address % 4) 0) (onFetched w (fetchOf h (sites t) (plains t) (w .mem) (t .base) address) f)
     (failedWith einval w)
 
+-- 02, Five: a word that touches a protected byte is not written: "errno 13, after the window"
+unfoldable pub onWritable : World → ℕ → Response → Response
+onWritable w address r =
+    let t = w .target in
+    cond (hasProtected (t .protected) (address - t .base) 4) (failedWith eacces w) r
+
 -- ---- registers: "r and R act on the current process: a number over 33 or a write to 0 is 22, then none current 3,
 -- then not Stopped 16"
 
@@ -115,7 +126,9 @@ onPid w p r = cond (eqb (p .pid) 0) r (failedWith esrch w)
 unfoldable pub responseBy : Head → TextKind → World → Packet → Response
 responseBy h ReadWord w p = onPid w p (onWord h w (p .third) (λ v. completed v w))
 responseBy h WriteWord w p =
-    onPid w p (onWord h w (p .third) (λ v. completed v (windowWritten h w (p .third) (h .bytes (p .fourth)))))
+    onPid w p
+    (onWord h w (p .third)
+    (λ v. onWritable w (p .third) (completed v (windowWritten h w (p .third) (h .bytes (p .fourth))))))
 responseBy h ReadRegister w p =
     onPid w p (onRegister w (leb (p .third) 33) (λ b. completed (registerAt w b (p .third)) w))
 responseBy h WriteRegister w p =

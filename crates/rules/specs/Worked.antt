@@ -29,12 +29,15 @@ shownBy f w (step s ∷ cs) =
     shown house o ∷ shownBy f (o .after) cs
 shownBy f w (look offset n ∷ cs) = take n (drop offset (w .mem)) ∷ shownBy f w cs
 
--- ---- the worked setup: "B = 4,096, M = 64, byte at B + i is i", two processes, "a register area of zeros"
+-- ---- the worked setup: "B = 4,096, M = 64, byte at B + i is i", two processes, "a register area of zeros". 02, Five:
+-- "The worked setup's is empty"
 
 abbrev pub workedSetup : Setup
 workedSetup = record {
   base = 4_096;
   size = 64;
+  from = 4_096;
+  to = 4_096;
   pids = 5 ∷ 7 ∷ [];
   addresses = 0x80001000 ∷ 0x80002000 ∷ [];
   count = 2;

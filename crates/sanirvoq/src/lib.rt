@@ -14,7 +14,7 @@ use text_packet::Writing;
 use text_packet_read::FoundPacket;
 use wire_fields::Fields;
 use wire_fields::Found;
-ghost use mathlib.Core.List.{List};
+ghost use mathlib.Core.List.{List, []};
 ghost use mathlib.Core.Path.{_≡_};
 ghost use Prim.Native.Nat.{ℕ};
 ghost use Rattle.wire_fields.specs.Fields.{writeFields, foundBy};
@@ -25,29 +25,21 @@ ghost use Rattle.image_diff.specs.Answer.{compared, differencesOf};
 ghost use Rattle.capi_results.specs.Seen.{seen, seenOf, setupFrom};
 ghost use Rattle.capi_results.specs.Stepped.{Stepped};
 ghost use Rattle.rules.specs.Outcome.{world};
-ghost use Rattle.step.specs.Kinds.{leaving};
 ghost use Rattle.step.specs.declared.StepKind.the-variants as kind;
 ghost use Rattle.target.specs.View.{viewOf};
 ghost use Rattle.text_packet.specs.Write.{written as textWritten, writeOf as writeText};
 ghost use Rattle.text_packet_read.specs.Read.{foundBy as foundText, readOf as readText};
 ghost use Rattle.wire.specs.Codec.{written, readOf};
 
+// A setup, of which bytes `from` to before `to` of the window, by address, are protected.
 #[no_mangle]
-pub extern "C" fn sanirvoq_step_setup(
-    t: &mut Target,
-    mem: &mut [u8],
-    regs: &mut [u8],
-    pid: u32,
-    value: u8,
-    input: &[u8],
-    reply: &mut [u8],
-) -> u32
+pub extern "C" fn sanirvoq_step_setup(t: &mut Target, mem: &[u8], regs: &[u8], from: u64, to: u64) -> u32
     ensures { λ r. ⌜ ((words : List ℕ)
-        → seen r (viewOf (now (t .exit)) words) (now (mem .exit)) (now (regs .exit)) (now (reply .exit))
-        ≡ seenOf (leaving (now (reply .entry))
-        (setupFrom (world (viewOf (now (t .entry)) words) (now (mem .entry)) (now (regs .entry)))))) ⌝ }
+        → seen r (viewOf (now (t .exit)) words) (now (mem .entry)) (now (regs .entry)) []
+        ≡ seenOf (setupFrom (world (viewOf (now (t .entry)) words) (now (mem .entry)) (now (regs .entry)))
+        from to)) ⌝ }
 {
-    let d = capi_results::setup(*t, mem, regs, pid, value, input, reply);
+    let d = capi_results::setup(*t, mem, regs, from, to);
     *t = d.target;
     d.result
 }

@@ -4,7 +4,7 @@ use mathlib.Core.Bool.{Bool, true, false}
 use mathlib.Core.List.{List, [], _∷_, _++_, map}
 use lib.ListN.{take, drop, set, replicate}
 use Rattle.target.specs.Limits.{plainRoom}
-use Rattle.target.specs.Fresh.{freeEntry, noDraft, newTable}
+use Rattle.target.specs.Fresh.{nothing, freeEntry, noDraft, newTable}
 use Rattle.target.specs.declared.Draft.{Draft}
 use Rattle.target.specs.declared.Entry.{Entry}
 use Rattle.target.specs.declared.Process.{Process}
@@ -24,6 +24,7 @@ abbrev pub withBeside : Target → List Process → ℕ → ℕ → Target
 withBeside t ps selected current = record {
   base = t .base;
   size = t .size;
+  protected = t .protected;
   count = t .count;
   processes = ps;
   selected = selected;
@@ -35,6 +36,7 @@ abbrev pub withTable : Target → List Entry → Draft → Target
 withTable t es d = record {
   base = t .base;
   size = t .size;
+  protected = t .protected;
   count = t .count;
   processes = t .processes;
   selected = t .selected;
@@ -80,7 +82,16 @@ stored t Restart plain =
 
 abbrev pub holding : ℕ → List Process → ℕ → ℕ → Table → Target
 holding count ps selected current u =
-    record { base = 0; size = 0; count = count; processes = ps; selected = selected; current = current; table = u }
+    record {
+      base = 0;
+      size = 0;
+      protected = nothing;
+      count = count;
+      processes = ps;
+      selected = selected;
+      current = current;
+      table = u;
+    }
 
 unfoldable pub processesAfter : ℕ → List Process → Change → List Process
 processesAfter count ps c = stored (holding count ps 0 0 newTable) c [] .processes

@@ -2,7 +2,7 @@
 use mathlib.Core.Path.{_≡_, ap}
 use mathlib.Core.Bool.{true, false, _&&_, and-false}
 use mathlib.Core.List.{List, []}
-use Prim.Native.Nat.{ℕ, _+_, _*_, _<_, _≤_}
+use Prim.Native.Nat.{ℕ, _+_, _-_, _*_, _<_, _≤_}
 use native.Mathlib.Omega.{arith}
 use borrow.Author.Tests.{lt-ltb, le-ltb}
 use lib.Dec.{eqb}
@@ -10,7 +10,8 @@ use lib.ListN.{length, getD, set}
 use Rattle.common.specs.Tab.{tab}
 use Rattle.common.proofs.Cases.{on-less}
 use Rattle.common.proofs.Tab.{tab-set, tab-ext}
-use Rattle.target_fit.specs.Fit.{windowFit, processesFit}
+use Rattle.common.proofs.Same.{parts}
+use Rattle.target_fit.specs.Fit.{windowFit, boundsFit, processesFit}
 use Rattle.rules.specs.Outcome.{world, outcome, answered}
 use Rattle.rules.specs.Record.{ready}
 use Rattle.rules.specs.Step.{beginning, setupTarget, setupOf}
@@ -40,26 +41,42 @@ module _ (pids addresses : List ℕ) where
 
 -- ---- each test decides
 
-module _ (base size : ℕ) (pids addresses : List ℕ) (count : ℕ) (mem regs : List ℕ) where
+module _ (base size from to : ℕ) (pids addresses : List ℕ) (count : ℕ) (mem regs : List ℕ) where
   pub setup-window : windowFit base size ≡ false
-      → outcome 1 Nothing (world emptyTarget mem regs) [] ≡ setupOf base size pids addresses count mem regs
+      → outcome 1 Nothing (world emptyTarget mem regs) [] ≡ setupOf base size from to pids addresses count mem regs
   unfolding setupOf
   setup-window h = rw h
 
+  pub setup-bounds : boundsFit base size from to ≡ false
+      → outcome 1 Nothing (world emptyTarget mem regs) [] ≡ setupOf base size from to pids addresses count mem regs
+  unfolding setupOf
+  setup-bounds h = rw (h, and-false)
+
   module _ (ps : List Process) (e : ps ≡ tab 4 (beginning pids addresses count)) where
     pub setup-processes : processesFit ps count ≡ false
-        → outcome 1 Nothing (world emptyTarget mem regs) [] ≡ setupOf base size pids addresses count mem regs
+        → outcome 1 Nothing (world emptyTarget mem regs) [] ≡ setupOf base size from to pids addresses count mem regs
     unfolding setupOf setupTarget
     setup-processes h = rw (rw e at h, and-false)
 
-    module _ (h : windowFit base size ≡ true) (g : processesFit ps count ≡ true) where
+    module _ (h : windowFit base size ≡ true) (b : boundsFit base size from to ≡ true) (g : processesFit ps count ≡ true) where
       pub setup-sizes : (eqb (length mem) size && eqb (length regs) (136 * count)) ≡ false
-          → outcome 2 Nothing (world emptyTarget mem regs) [] ≡ setupOf base size pids addresses count mem regs
+          → outcome 2 Nothing (world emptyTarget mem regs) [] ≡ setupOf base size from to pids addresses count mem regs
       unfolding setupOf setupTarget
-      setup-sizes z = rw (h, rw e at g, z)
+      setup-sizes z = rw (h, b, rw e at g, z)
 
       pub setup-taken : (eqb (length mem) size && eqb (length regs) (136 * count)) ≡ true
-          → outcome 0 Nothing (world (setupTarget base size pids addresses count) mem regs) [] ≡ setupOf base size pids
+          → outcome 0 Nothing (world (setupTarget base size from to pids addresses count) mem regs) [] ≡ setupOf base size from to pids
           addresses count mem regs
       unfolding setupOf setupTarget answered
-      setup-taken z = rw (h, rw e at g, z)
+      setup-taken z = rw (h, b, rw e at g, z)
+
+-- a stretch that keeps its bounds lies in the window
+pub bounds-inside : (base size from to : ℕ) → windowFit base size ≡ true → boundsFit base size from to ≡ true
+    → (base ≤ from) × (from ≤ to) × (to - base ≤ 65536)
+unfolding windowFit boundsFit
+bounds-inside base size from to w b =
+    let low : base ≤ from = search parts depth 7 in
+    let up : from ≤ to = search parts depth 7 in
+    let end : to ≤ base + size = search parts depth 7 in
+    let most : size ≤ 65536 = search parts depth 8 in
+    (low, up, omega arith)

@@ -2,14 +2,15 @@
 use rules::Answer;
 use step_effect::Done;
 use target::Process;
+use target::Stretch;
 use target::Table;
 use target::Target;
 ghost use mathlib.Core.Path.{_≡_};
 ghost use mathlib.Core.List.{List, []};
-ghost use Prim.Native.Nat.{ℕ};
+ghost use Prim.Native.Nat.{ℕ, _-_, _≤_};
 ghost use Rattle.common.specs.Tab.{tab};
 ghost use Rattle.rules.specs.Outcome.{world, outcome};
-ghost use Rattle.rules.specs.Step.{beginning, setupOf};
+ghost use Rattle.rules.specs.Step.{beginning, stretchOf, setupOf};
 ghost use Rattle.rules.specs.declared.Answer.the-variants as answer;
 ghost use Rattle.target.specs.Fresh.{emptyRecord};
 ghost use Rattle.target.specs.Limits.{maxProcesses};
@@ -59,10 +60,24 @@ fn refused(number: u8) -> Done
     }
 }
 
-// A window of `size` bytes at `base`, and the first `count` pids and Proc addresses.
+// The stretch from an address to before another, in a window at `base`.
+fn stretch_of(base: u32, from: u64, to: u64) -> Stretch
+    requires { ⌜ (base ≤ from) × (from ≤ to) × (to - base ≤ 65536) ⌝ }
+    ensures { λ r. ⌜ r ≡ stretchOf base from to ⌝ }
+{
+    Stretch {
+        offset: (from - base as u64) as u32,
+        length: (to - from) as u32,
+    }
+}
+
+// A window of `size` bytes at `base`, of which those from `from` to before `to` are protected, and the first `count`
+// pids and Proc addresses.
 pub fn setup(
     base: u32,
     size: u32,
+    from: u64,
+    to: u64,
     pids: [u32; Target::PROCESSES],
     addresses: [u32; Target::PROCESSES],
     count: u32,
@@ -71,10 +86,13 @@ pub fn setup(
 ) -> Done
     ensures { λ r. ⌜ ((words : List ℕ) → outcome (r .number) (r .answer)
         (world (viewOf (r .target) words) (now (mem .entry)) (now (regs .entry))) []
-        ≡ setupOf base size pids addresses count (now (mem .entry)) (now (regs .entry))) ⌝ }
+        ≡ setupOf base size from to pids addresses count (now (mem .entry)) (now (regs .entry))) ⌝ }
 {
     let processes = processes_of(pids, addresses, count);
     if !target_fit::window_fit(base, size) {
+        return refused(common::BROKEN_SETUP);
+    }
+    if !target_fit::bounds_fit(base, size, from, to) {
         return refused(common::BROKEN_SETUP);
     }
     if !target_fit::processes_fit(processes, count) {
@@ -83,10 +101,12 @@ pub fn setup(
     if !target_fit::sizes_right(size, count, mem.len(), regs.len()) {
         return refused(common::WRONG_SIZE);
     }
+    let protected = stretch_of(base, from, to);
     let table = Table::new();
     let target = Target {
         base,
         size,
+        protected: protected,
         count,
         processes: processes,
         selected: 0,

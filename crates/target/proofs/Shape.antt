@@ -91,6 +91,8 @@ draft-shape d vs h = record {
 pub record TargetShape (t : Target) : Type 0 where
   pub base : t .base < 2 ^ 32
   pub size : t .size < 2 ^ 32
+  pub protectedOffset : t .protected .offset < 2 ^ 32
+  pub protectedLength : t .protected .length < 2 ^ 32
   pub count : t .count < 2 ^ 32
   pub processes : length (t .processes) ≡ 4
   pub selected : t .selected < 2 ^ 8
@@ -100,12 +102,14 @@ pub target-shape : (t : Target) (vs : List Val) → Is target.the-row t vs → T
 target-shape t vs h = record {
   base = h .1 .1 .0 .1;
   size = h .1 .1 .1 .0 .1;
-  count = h .1 .1 .1 .1 .0 .1;
-  processes = sym (length-map (t .processes) (process.the-field .into)) ∙ (h .1 .1 .1 .1 .1 .0 .1 .0 .1);
-  selected = h .1 .1 .1 .1 .1 .1 .0 .1;
-  current = h .1 .1 .1 .1 .1 .1 .1 .0 .1;
+  protectedOffset = h .1 .1 .1 .1 .0 .1 .1 .0 .1;
+  protectedLength = h .1 .1 .1 .1 .0 .1 .1 .1 .0 .1;
+  count = h .1 .1 .1 .1 .1 .0 .1;
+  processes = sym (length-map (t .processes) (process.the-field .into)) ∙ (h .1 .1 .1 .1 .1 .1 .0 .1 .0 .1);
+  selected = h .1 .1 .1 .1 .1 .1 .1 .0 .1;
+  current = h .1 .1 .1 .1 .1 .1 .1 .1 .0 .1;
 }
 
 pub target-table : (t : Target) (vs : List Val) → Is target.the-row t vs
     → (us : List Val) × Is table.the-row (t .table) us
-target-table t vs h = (_, h .1 .1 .1 .1 .1 .1 .1 .1 .0)
+target-table t vs h = (_, h .1 .1 .1 .1 .1 .1 .1 .1 .1 .0)

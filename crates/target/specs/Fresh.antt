@@ -5,11 +5,16 @@ use lib.ListN.{replicate}
 use Rattle.target.specs.Limits.{maxEntries, plainRoom, maxProcesses}
 use Rattle.target.specs.declared.Element.{Element}
 use Rattle.target.specs.declared.Process.{Process}
+use Rattle.target.specs.declared.Stretch.{Stretch}
 use Rattle.target.specs.declared.Entry.{Entry as StoredEntry}
 use Rattle.target.specs.declared.Draft.{Draft as StoredDraft}
 use Rattle.target.specs.declared.Table.{Table as StoredTable}
 use Rattle.target.specs.declared.Target.{Target as StoredTarget}
 use Rattle.target.specs.View.{Entry, Draft, Table, Target}
+
+-- no byte is protected (02, Five): what the empty record has
+abbrev pub nothing : Stretch
+nothing = record { offset = 0; length = 0 }
 
 -- past the end of a list of elements
 abbrev pub noElement : Element
@@ -41,6 +46,7 @@ abbrev pub emptyTarget : Target
 emptyTarget = record {
   base = 0;
   size = 0;
+  protected = nothing;
   count = 0;
   processes = replicate maxProcesses noProcess;
   selected = 0;
@@ -63,6 +69,7 @@ abbrev pub emptyRecord : StoredTarget
 emptyRecord = record {
   base = 0;
   size = 0;
+  protected = nothing;
   count = 0;
   processes = replicate maxProcesses noProcess;
   selected = 0;

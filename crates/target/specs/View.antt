@@ -11,6 +11,7 @@ use lib.ListN.{take, drop}
 use Rattle.pool_rows.specs.Rows.{total, startOf, afterAll}
 use Rattle.target.specs.declared.Element.{Element}
 use Rattle.target.specs.declared.Process.{Process}
+use Rattle.target.specs.declared.Stretch.{Stretch}
 use Rattle.target.specs.declared.Entry.{Entry as StoredEntry}
 use Rattle.target.specs.declared.Draft.{Draft as StoredDraft}
 use Rattle.target.specs.declared.Table.{Table as StoredTable}
@@ -42,6 +43,7 @@ pub record Table : Type 0 where
 pub record Target : Type 0 where
   pub base : ℕ
   pub size : ℕ
+  pub protected : Stretch
   pub count : ℕ
   pub processes : List Process
   pub selected : ℕ
@@ -113,6 +115,7 @@ abbrev pub viewOf : StoredTarget → List ℕ → Target
 viewOf t words = record {
   base = t .base;
   size = t .size;
+  protected = t .protected;
   count = t .count;
   processes = t .processes;
   selected = t .selected;

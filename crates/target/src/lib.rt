@@ -48,11 +48,19 @@ pub struct Process {
     pub wanted: u8,
 }
 
-// B and M, the first `count` processes, the table, and the pid that Tproc made current.
+// The protected stretch of the window: the offset of its first byte, and how many bytes it has.
+#[repr(C)]
+pub struct Stretch {
+    pub offset: u32,
+    pub length: u32,
+}
+
+// B and M, the protected stretch, the first `count` processes, the table, and the pid that Tproc made current.
 #[repr(C)]
 pub struct Target {
     pub base: u32,
     pub size: u32,
+    pub protected: Stretch,
     pub count: u32,
     pub processes: [Process; Target::PROCESSES],
     pub selected: u8,
@@ -129,7 +137,7 @@ impl Table {
 impl Target {
     pub const PROCESSES: usize = 4;
 
-    // What a refused setup leaves: no process, B and M 0, the table fresh, none current.
+    // What a refused setup leaves: no process, B and M 0, nothing protected, the table fresh, none current.
     pub fn empty() -> Target
         ensures { λ r. ⌜ r ≡ emptyRecord ⌝ }
     {
@@ -139,10 +147,15 @@ impl Target {
             state: 0,
             wanted: 0,
         };
+        let none_protected = Stretch {
+            offset: 0,
+            length: 0,
+        };
         let table = Table::new();
         Target {
             base: 0,
             size: 0,
+            protected: none_protected,
             count: 0,
             processes: [none; Target::PROCESSES],
             selected: 0,

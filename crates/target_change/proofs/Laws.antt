@@ -130,6 +130,7 @@ pub of-parts : (t : Target) (c : Change) (plain : List ℕ)
     → record {
       base = t .base;
       size = t .size;
+      protected = t .protected;
       count = t .count;
       processes = processesAfter (t .count) (t .processes) c;
       selected = selectedAfter (t .selected) c;

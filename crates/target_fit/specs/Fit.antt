@@ -9,11 +9,12 @@ use Rattle.common.specs.First.{firstOf}
 use Rattle.condition.specs.Depth.{depthOf, wellBegun, wellFormed}
 use Rattle.memory.specs.Head.{Head, width}
 use Rattle.memory.specs.Overlay.{freeSite}
-use Rattle.memory.specs.Place.{isSite}
+use Rattle.memory.specs.Place.{isSite, hasProtected}
 pub use Rattle.target.specs.Limits.{stopped}
 use Rattle.pool_rows.specs.Rows.{total}
 use Rattle.target.specs.Limits.{maxEntries, maxPlain, maxPlaces, maxProcesses}
 use Rattle.target.specs.declared.Process.{Process}
+use Rattle.target.specs.declared.Stretch.{Stretch}
 use Rattle.target.specs.View.{Entry, Draft, Table, Target}
 use Rattle.target.specs.Fresh.{noEntry, noProcess}
 use Rattle.target.specs.Free.{isFree, firstFree}
@@ -126,11 +127,31 @@ draftHeld d = cond (eqb (d .active) 0) 0 (d .count)
 unfoldable pub heldOf : Table → ℕ
 heldOf u = entriesHeld (u .entries) + draftHeld (u .draft)
 
+-- ---- 02, Five: "In a fit record the stretch keeps these bounds and no site has a protected byte"
+
+-- the bounds of a stretch from one address to before another: "from and to are multiples of 4, and B, from, to, B + M
+-- never fall"
+unfoldable pub boundsFit : ℕ → ℕ → ℕ → ℕ → Bool
+boundsFit base size from to =
+    eqb (from % 4) 0 && eqb (to % 4) 0 && leb base from && leb from to && leb to (base + size)
+
+-- the stretch of a record keeps them
+unfoldable pub stretchFit : ℕ → ℕ → Stretch → Bool
+stretchFit base size p = boundsFit base size (base + p .offset) (base + p .offset + p .length)
+
+-- an entry's site, where it is used, has no protected byte of the w under its trap
+unfoldable pub siteOff : ℕ → ℕ → Stretch → Entry → Bool
+siteOff w base p e = isFree e || not (hasProtected p (e .site - base) w)
+
+unfoldable pub protectedFit : ℕ → ℕ → ℕ → Stretch → List Entry → Bool
+protectedFit w base size p es = stretchFit base size p && every maxEntries (λ k. siteOff w base p (entryAt es k))
+
 -- ---- the whole record
 
 unfoldable pub fitOf : Head → Target → List ℕ → Bool
 fitOf h t mem =
     windowFit (t .base) (t .size)
+    && protectedFit (width h) (t .base) (t .size) (t .protected) (t .table .entries)
     && processesFit (t .processes) (t .count)
     && entriesFit h (t .base) mem (t .table .entries)
     && marksFit (t .processes) (t .count)

@@ -10,7 +10,8 @@ ghost use Prim.Native.Nat.{_*_, _≤_};
 ghost use lib.Dec.{eqb};
 ghost use lib.ListN.{getD};
 ghost use Rattle.common.specs.Every.{every};
-ghost use Rattle.target_fit.specs.Fit.{windowFit, processesFit, markFit, marksFit, processOf, findOf, currentFit};
+ghost use Rattle.target_fit.specs.Fit.{windowFit, boundsFit, processesFit, markFit, marksFit, processOf, findOf};
+ghost use Rattle.target_fit.specs.Fit.{currentFit};
 ghost use Rattle.target.specs.Limits.{maxProcesses, blockSize};
 
 // Whether the test holds and, where it does, how many places are held, the depth of the condition in hand, and of the
@@ -58,6 +59,26 @@ pub fn window_fit(base: u32, size: u32) -> bool
     }
     let end = base as u64 + size as u64;
     end <= 4294967296
+}
+
+// The bounds on a protected stretch, from an address to before another.
+pub fn bounds_fit(base: u32, size: u32, from: u64, to: u64) -> bool
+    ensures { λ r. ⌜ r ≡ boundsFit base size from to ⌝ }
+{
+    if from % 4 != 0 {
+        return false;
+    }
+    if to % 4 != 0 {
+        return false;
+    }
+    if from < base as u64 {
+        return false;
+    }
+    if to < from {
+        return false;
+    }
+    let end = base as u64 + size as u64;
+    to <= end
 }
 
 // None of the first n pids is this one.

@@ -15,6 +15,7 @@ use Rattle.common.proofs.Fill.{filled, fill-before, fill-set, fill-keep, fill-w
 use Rattle.common.proofs.Same.{true-or-false, and-both, parts}
 use Rattle.common.proofs.Tab.{length-tab, tab-at}
 use Rattle.target.specs.declared.Element.{Element}
+use Rattle.target.specs.declared.Stretch.{Stretch}
 use Rattle.target.specs.declared.Entry.{Entry as Stored}
 use Rattle.target.specs.Free.{isFree}
 use Rattle.target.specs.Fresh.{pastEntries}
@@ -27,8 +28,10 @@ use Rattle.pool.proofs.Sizes.{size-free, start-none, start-more, start-all}
 use Rattle.memory.specs.Head.{house}
 use Rattle.memory.specs.Overlay.{freeSite}
 use Rattle.memory.specs.Place.{isSite}
-use Rattle.target_fit.specs.Arrays.{freeId, idOf, siteOf}
-use Rattle.target_fit.specs.Fit.{entryAt, apart, siteFit, entryFit, slotFit, entriesFit, unfitScan}
+use Rattle.target_fit.specs.Arrays.{freeId, idOf, siteOf, sitesOf}
+use Rattle.target_fit.specs.Fit.{entryAt, apart, siteFit, entryFit, slotFit, entriesFit, siteOff, unfitScan}
+use Rattle.target_protected.specs.Slots.{slotOff}
+use Rattle.target_protected.proofs.Laws.{slot-entry}
 use Rattle.target_fit.specs.declared.Scan.{Scan}
 use Rattle.target_fit.proofs.Laws.{answered-yes}
 use Rattle.target_fit.proofs.Slots.{ids-tab, sites-tab, Roomy, plainByte, plains-tab}
@@ -48,6 +51,17 @@ module _ (base : ℕ) (mem : List ℕ) (e : Entry) where
   entry-site q h =
       let g = rw q at h in
       (search parts depth 9, search parts depth 9)
+
+-- the slots of entries that are fit stand off the protected stretch where the entries do
+pub sites-off : (p : Stretch) (base : ℕ) (mem : List ℕ) (es : List Entry) → length es ≡ 8
+    → entriesFit house base mem es ≡ true → base % 2 ≡ 0
+    → (k : ℕ) → k < 8 → slotOff p (getD (sitesOf base es) k 0) ≡ siteOff 2 base p (entryAt es k)
+unfolding entriesFit slotFit
+sites-off p base mem es z h even k l =
+    let e = entryAt es k in
+    let f = every-at 8 _ h k l in
+    ap (slotOff p) (ap (λ (s : List ℕ). getD s k 0) (sites-tab base es 8 z) ∙ tab-at 8 _ 0 k l)
+    ∙ slot-entry p base e (λ u. entry-site base mem e u (search parts)) even
 
 -- those of a used entry of the code, whose elements start at a place of the pool
 module _ (base : ℕ) (mem : List ℕ) (e : Stored) (from : ℕ) (pool : List Element) (q : e .used ≡ 0 → ⊥) where

@@ -1,15 +1,17 @@
 -- Laws of the whole record: each test alone makes it unfit, and with all passed the scan is the record's. Assumes
 -- nothing.
 use mathlib.Core.Path.{_≡_, refl, sym, ap, _∙_}
-use mathlib.Core.Bool.{Bool, true, false, cond, _&&_, and-false}
+use mathlib.Core.Bool.{Bool, true, false, cond, not, _&&_, and-false}
 use mathlib.Core.List.{List}
 use Prim.Native.Nat.{ℕ, _+_, _%_, _≤_}
 use native.Mathlib.Nat.{add-zero}
 use native.Mathlib.Omega.{arith}
-use borrow.Author.Tests.{eq-eqb, ne-eqb, le-leb, lt-leb, leb-true, eqb-true}
+use borrow.Author.Tests.{eq-eqb, ne-eqb, le-leb, lt-leb, leb-true, eqb-true, not-true, not-false}
 use lib.Dec.{eqb, leb, ltb}
-use lib.ListN.{length, take, drop}
+use lib.ListN.{length, getD, take, drop}
+use Rattle.common.specs.Every.{every}
 use Rattle.common.specs.First.{firstOf}
+use Rattle.common.proofs.Every.{every-ext}
 use Rattle.common.proofs.Cases.{on-test, on-same, on-less, same-test, choose}
 use Rattle.common.proofs.Same.{true-or-false, and-left, and-right, parts}
 use Rattle.condition.specs.Depth.{depthFrom, depthOf, wellBegun}
@@ -33,6 +35,8 @@ use Rattle.target_fit.specs.Fit.{
   draftTest,
   draftFit,
   heldOf,
+  stretchFit,
+  protectedFit,
   fitOf,
   unfitScan,
   scanOf,
@@ -40,6 +44,8 @@ use Rattle.target_fit.specs.Fit.{
 use Rattle.target_fit.specs.declared.Scan.{Scan}
 use Rattle.target_fit.proofs.Slots.{Small, first-free}
 use Rattle.target_fit.proofs.View.{table-held}
+use Rattle.target_protected.specs.Slots.{slotOff}
+use Rattle.target_scan.proofs.Laws.{sites-off}
 use Rattle.target_scan.specs.Parts.{scanEntries, withDraft, handTest, scanDraft}
 
 -- a failed test: the arrays are of free entries
@@ -78,6 +84,11 @@ module _ (t : Target) (mem : List ℕ) where
   fit-held : leb (heldOf (t .table)) 128 ≡ false → fitOf house t mem ≡ false
   unfolding fitOf
   fit-held h = rw (h, and-false)
+
+  fit-protected : protectedFit 2 (t .base) (t .size) (t .protected) (t .table .entries) ≡ false
+      → fitOf house t mem ≡ false
+  unfolding fitOf
+  fit-protected h = rw (h, and-false)
 
 -- ---- the tests of a condition in hand, over its elements
 
@@ -202,8 +213,31 @@ module _ (t : StoredTarget) (words mem : List ℕ) where
       unfolding scanEntries
       whole = s ∙ rw (its-fit, le-leb (heldBy es 0) 128 its-room)
 
+      -- the sites that the scan found are off the protected stretch where the entries' are
+      off-is : length (viewEntries es pool) ≡ 8 → windowFit (t .base) (t .size) ≡ true
+          → (stretchFit (t .base) (t .size) (t .protected) && every 8 (λ k. slotOff (t .protected)
+          (getD (r .sites) k 0)))
+          ≡ protectedFit 2 (t .base) (t .size) (t .protected) (viewEntries es pool)
+      unfolding protectedFit
+      off-is z w = rw whole (ap (λ b. stretchFit (t .base) (t .size) (t .protected) && b)
+          (every-ext 8 _ _ (λ k h. sites-off (t .protected) (t .base) mem (viewEntries es pool) z its-fit
+          (window-even (t .base) (t .size) w) k h)))
+
+      pub fit-off : (b : Bool) → length (viewEntries es pool) ≡ 8 → windowFit (t .base) (t .size) ≡ true
+          → b ≡ (stretchFit (t .base) (t .size) (t .protected) && every 8 (λ k. slotOff (t .protected)
+          (getD (r .sites) k 0)))
+          → not b ≡ true → fitOf house seen mem ≡ false
+      fit-off b z w e n = fit-protected seen mem (sym (off-is z w) ∙ sym e ∙ not-true b n)
+
+      pub off-yes : (b : Bool) → length (viewEntries es pool) ≡ 8 → windowFit (t .base) (t .size) ≡ true
+          → b ≡ (stretchFit (t .base) (t .size) (t .protected) && every 8 (λ k. slotOff (t .protected)
+          (getD (r .sites) k 0)))
+          → not b ≡ false → protectedFit 2 (t .base) (t .size) (t .protected) (viewEntries es pool) ≡ true
+      off-yes b z w e n = sym (off-is z w) ∙ sym e ∙ not-false b n
+
       -- with the other tests passed
       module _ (small : Small (viewEntries es pool)) (w : windowFit (t .base) (t .size) ≡ true)
+          (g : protectedFit 2 (t .base) (t .size) (t .protected) (viewEntries es pool) ≡ true)
           (p : processesFit (t .processes) (t .count) ≡ true) (m : marksFit (t .processes) (t .count) ≡ true)
           (c : currentFit (t .selected) (t .current) (t .processes) (t .count) ≡ true) where
         abbrev its-draft : Bool
@@ -211,7 +245,7 @@ module _ (t : StoredTarget) (words mem : List ℕ) where
 
         fit-left : fitOf house seen mem ≡ (its-draft && leb (heldOf (viewTable (t .table) pool)) 128)
         unfolding fitOf
-        fit-left = rw (w, p, its-fit, m, c)
+        fit-left = rw (w, g, p, its-fit, m, c)
 
         -- a scan with the condition in hand is the record's
         done : (held depth : ℕ) → held ≡ heldOf (viewTable (t .table) pool)

@@ -269,6 +269,11 @@ pub fn check(t: Target, places: &[u32; Table::WORDS], mem: &[u8]) -> Scan
     if !found.fit {
         return unfit();
     }
+    let protected = t.protected;
+    let sites = found.sites;
+    if !target_protected::protected_fit(t.base, t.size, protected, &sites) {
+        return unfit();
+    }
     let draft = table.draft;
     scan_draft(found, draft, places)
 }

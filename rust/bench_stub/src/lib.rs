@@ -10,6 +10,7 @@
 mod condition;
 mod event;
 mod fit;
+pub mod patch;
 mod record;
 mod request;
 mod text;

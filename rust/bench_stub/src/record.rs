@@ -15,6 +15,8 @@ pub enum Refusal {
     NoSite = 6,
     NoPacket = 10,
     ShortText = 11,
+    Image = 16,
+    ShortList = 17,
 }
 
 impl Refusal {

@@ -107,6 +107,7 @@ abbrev beside : Target → List Process → ℕ → ℕ → Target
 beside h ps s c = record {
   base = h .base;
   size = h .size;
+  protected = h .protected;
   count = h .count;
   processes = ps;
   selected = s;
@@ -116,16 +117,17 @@ beside h ps s c = record {
 
 module _ (h : Target) (p : Is T.the-row h (mach h ∷ [])) where
   count-is : Is (UInt w32) (h .count) (vint w32 (h .count) ∷ [])
-  count-is = LL.owed T.the-type T′.the-laws h (mach h ∷ []) p .1 .1 .0
+  count-is = LL.owed T.the-type T′.the-laws h (mach h ∷ []) p .1 .1 .1 .0
 
   processes-is : Is (Array Q.the-row 4) (h .processes) (arrays Q.the-type Q′.the-laws (h .processes) ∷ [])
-  processes-is = array-out Q.the-type 4 (h .processes) _ (LL.owed T.the-type T′.the-laws h (mach h ∷ []) p .1 .1 .1 .0)
+  processes-is =
+      array-out Q.the-type 4 (h .processes) _ (LL.owed T.the-type T′.the-laws h (mach h ∷ []) p .1 .1 .1 .1 .0)
 
   selected-is : Is (UInt w8) (h .selected) (vint w8 (h .selected) ∷ [])
-  selected-is = LL.owed T.the-type T′.the-laws h (mach h ∷ []) p .1 .1 .1 .1 .0
+  selected-is = LL.owed T.the-type T′.the-laws h (mach h ∷ []) p .1 .1 .1 .1 .1 .0
 
   current-is : Is (UInt w32) (h .current) (vint w32 (h .current) ∷ [])
-  current-is = LL.owed T.the-type T′.the-laws h (mach h ∷ []) p .1 .1 .1 .1 .1 .0
+  current-is = LL.owed T.the-type T′.the-laws h (mach h ∷ []) p .1 .1 .1 .1 .1 .1 .0
 
 beside-is : (h : Target) (ps : List Process) (s c : ℕ) → Is T.the-row h (mach h ∷ [])
     → Is (Array Q.the-row 4) ps (arrays Q.the-type Q′.the-laws ps ∷ []) → Is (UInt w8) s (vint w8 s ∷ [])
@@ -135,7 +137,13 @@ beside-is h ps s c p ps-is s-is c-is =
     let w = LL.owed T.the-type T′.the-laws h (mach h ∷ []) p in
     LL.owes T.the-type T′.the-laws (beside h ps s c) (
       w .0,
-      (w .1 .0, (w .1 .1 .0, (array-in Q.the-type 4 ps _ ps-is, (s-is, (c-is, (w .1 .1 .1 .1 .1 .1 .0, tt)))))),
+      (
+        w .1 .0,
+        (
+          w .1 .1 .0,
+          (w .1 .1 .1 .0, (array-in Q.the-type 4 ps _ ps-is, (s-is, (c-is, (w .1 .1 .1 .1 .1 .1 .1 .0, tt))))),
+        ),
+      ),
     )
 
 changed : (h : Target) (d : Effect) (ps : List Process) (s c : ℕ) → Holds (inBeside (d .change))
@@ -242,10 +250,10 @@ module _ {M : Type 1} (𝓤 : URA M) (H : Heap 𝓤) (A : Atoms 𝓤) (W : Given
         -- the processes
         (λ on back.
         assigns ! (of-opd ! (load ! (from ! (hop ! (look ! 4 refl) (fld ! refl (stop !))))
-        (look-in ! 0 (sub ! 2 refl (whole !))))) (from ! (stop !))
+        (look-in ! 0 (sub ! 3 refl (whole !))))) (from ! (stop !))
         (init ! 16 refl (word .lawful .typed (h .count) _ (count-is h p) .0)) $
         assigns ! (of-opd ! (load ! (from ! (hop ! (look ! 4 refl) (fld ! refl (stop !))))
-        (look-in ! 0 (sub ! 3 refl (whole !))))) (from ! (stop !))
+        (look-in ! 0 (sub ! 4 refl (whole !))))) (from ! (stop !))
         (init ! 18 refl (processes .lawful .typed (h .processes) _ (processes-is h p) .0)) $
         calls-plain ! fm new-processes (h .count, (h .processes, (d, tt))) (
           count-is h p,
@@ -257,10 +265,10 @@ module _ {M : Type 1} (𝓤 : URA M) (H : Heap 𝓤) (A : Atoms 𝓤) (W : Given
         land ! (from ! (stop !)) (init ! 14 refl (processes .lawful .typed ps _ ps-is .0)) $
         assigns ! (of-opd ! (load ! (from ! (stop !)) (look ! 14 refl)))
         (from ! (hop ! (look ! 4 refl) (fld ! refl (stop !))))
-        (store-in ! 0 (sub ! 3 refl (whole !)) (processes .lawful .typed ps _ ps-is .0)) $
+        (store-in ! 0 (sub ! 4 refl (whole !)) (processes .lawful .typed ps _ ps-is .0)) $
         -- whether there is a current one
         assigns ! (of-opd ! (load ! (from ! (hop ! (look ! 4 refl) (fld ! refl (stop !))))
-        (look-in ! 0 (sub ! 4 refl (whole !))))) (from ! (stop !))
+        (look-in ! 0 (sub ! 5 refl (whole !))))) (from ! (stop !))
         (init ! 22 refl (byte .lawful .typed (h .selected) _ (selected-is h p) .0)) $
         calls-plain ! fm new-selected (h .selected, (d, tt)) (selected-is h p, (d-is, tt))
         (and-then ! (load ! (from ! (stop !)) (look ! 23 refl))
@@ -268,10 +276,10 @@ module _ {M : Type 1} (𝓤 : URA M) (H : Heap 𝓤) (A : Atoms 𝓤) (W : Given
         land ! (from ! (stop !)) (init ! 20 refl (byte .lawful .typed s _ s-is .0)) $
         assigns ! (of-opd ! (load ! (from ! (stop !)) (look ! 20 refl)))
         (from ! (hop ! (look ! 4 refl) (fld ! refl (stop !))))
-        (store-in ! 0 (sub ! 4 refl (whole !)) (byte .lawful .typed s _ s-is .0)) $
+        (store-in ! 0 (sub ! 5 refl (whole !)) (byte .lawful .typed s _ s-is .0)) $
         -- its pid
         assigns ! (of-opd ! (load ! (from ! (hop ! (look ! 4 refl) (fld ! refl (stop !))))
-        (look-in ! 0 (sub ! 5 refl (whole !))))) (from ! (stop !))
+        (look-in ! 0 (sub ! 6 refl (whole !))))) (from ! (stop !))
         (init ! 24 refl (word .lawful .typed (h .current) _ (current-is h p) .0)) $
         calls-plain ! fm new-current (h .current, (d, tt)) (current-is h p, (d-is, tt))
         (and-then ! (load ! (from ! (stop !)) (look ! 25 refl))
@@ -279,7 +287,7 @@ module _ {M : Type 1} (𝓤 : URA M) (H : Heap 𝓤) (A : Atoms 𝓤) (W : Given
         land ! (from ! (stop !)) (store ! 16 refl (word .lawful .typed c _ c-is .0)) $
         assigns-last ! (of-opd ! (load ! (from ! (stop !)) (look ! 16 refl)))
         (from ! (hop ! (look ! 4 refl) (fld ! refl (stop !))))
-        (store-in ! 0 (sub ! 5 refl (whole !)) (word .lawful .typed c _ c-is .0)) $
+        (store-in ! 0 (sub ! 6 refl (whole !)) (word .lawful .typed c _ c-is .0)) $
         -- the borrow is closed at the new record, which is handed on
         back _ $ forget ! 12 refl $ forget ! 14 refl $ forget ! 16 refl $ forget ! 18 refl $ forget ! 20 refl $
         forget ! 22 refl $ forget ! 24 refl $

@@ -142,7 +142,7 @@ module _ {M : Type 1} (𝓤 : URA M) (H : Heap 𝓤) (A : Atoms 𝓤) (W : Given
         -- the new condition is made and stored
         (λ on back.
         assigns ! (of-opd ! (load ! (from ! (hop ! (look ! 4 refl) (fld ! refl (fld ! refl (stop !)))))
-        (look-in ! 0 (sub ! 1 refl (sub ! 6 refl (whole !)))))) (from ! (stop !))
+        (look-in ! 0 (sub ! 1 refl (sub ! 7 refl (whole !)))))) (from ! (stop !))
         (init ! 10 refl (part .lawful .typed (h .table .draft) _ (draft-is h p) .0)) $
         calls-plain ! fm new-draft (h .table .draft, (d, tt)) (draft-is h p, (d-is, tt))
         (and-then ! (load ! (from ! (stop !)) (look ! 11 refl))
@@ -150,7 +150,7 @@ module _ {M : Type 1} (𝓤 : URA M) (H : Heap 𝓤) (A : Atoms 𝓤) (W : Given
         land ! (from ! (stop !)) (init ! 14 refl (part .lawful .typed r _ r-is .0)) $
         assigns-last ! (of-opd ! (load ! (from ! (stop !)) (look ! 14 refl)))
         (from ! (hop ! (look ! 4 refl) (fld ! refl (fld ! refl (stop !)))))
-        (store-in ! 0 (sub ! 1 refl (sub ! 6 refl (whole !))) (part .lawful .typed r _ r-is .0)) $
+        (store-in ! 0 (sub ! 1 refl (sub ! 7 refl (whole !))) (part .lawful .typed r _ r-is .0)) $
         -- the borrow is closed at the new record
         back _ $ forget ! 10 refl $ forget ! 12 refl $ forget ! 14 refl $
         shut ! tt (drafted h r) b o (drafted-is h r p r-is) $

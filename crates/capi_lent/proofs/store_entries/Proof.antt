@@ -140,7 +140,7 @@ module _ {M : Type 1} (𝓤 : URA M) (H : Heap 𝓤) (A : Atoms 𝓤) (W : Given
         -- the new entries are made, from the table, and stored
         (λ on back.
         assigns ! (of-opd ! (load ! (from ! (hop ! (look ! 4 refl) (fld ! refl (stop !))))
-        (look-in ! 0 (sub ! 6 refl (whole !))))) (from ! (stop !))
+        (look-in ! 0 (sub ! 7 refl (whole !))))) (from ! (stop !))
         (init ! 16 refl (table .lawful .typed (h .table) _ (table-is h p) .0)) $
         calls-plain ! fm new-entries (h .table, (d, tt)) (table-is h p, (d-is, tt))
         (and-then ! (load ! (from ! (stop !)) (look ! 17 refl))
@@ -148,7 +148,7 @@ module _ {M : Type 1} (𝓤 : URA M) (H : Heap 𝓤) (A : Atoms 𝓤) (W : Given
         land ! (from ! (stop !)) (init ! 14 refl (part .lawful .typed r _ r-is .0)) $
         assigns-last ! (of-opd ! (load ! (from ! (stop !)) (look ! 14 refl)))
         (from ! (hop ! (look ! 4 refl) (fld ! refl (fld ! refl (stop !)))))
-        (store-in ! 0 (sub ! 0 refl (sub ! 6 refl (whole !))) (part .lawful .typed r _ r-is .0)) $
+        (store-in ! 0 (sub ! 0 refl (sub ! 7 refl (whole !))) (part .lawful .typed r _ r-is .0)) $
         -- the borrow is closed at the new record, which is handed on
         back _ $ forget ! 12 refl $ forget ! 14 refl $ forget ! 16 refl $
         shut ! tt (listed h r) b o (listed-is h r p r-is) $

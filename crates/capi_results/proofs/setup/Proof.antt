@@ -1,9 +1,6 @@
 -- `capi_results::setup` meets its contract: what the stub gives, packed. Assumes nothing.
 use mathlib.Core.Path.{ap}
 use borrow.Author.Needs.{needs}
-use denote.Ref.{now}
-use Rattle.rules.specs.Outcome.{Outcome}
-use Rattle.step.specs.Kinds.{leaving}
 use Rattle.capi_results.specs.Seen.{seenOf, ofEach, setupFrom}
 use Rattle.capi_results.proofs.setup.Statement.{statement}
 use Rattle.capi_results.proofs.setup.Tie as tie
@@ -26,19 +23,9 @@ setup-requires c κs = search needs
 give-whole-requires : tie.Need-give-whole-requires
 give-whole-requires c κs = search needs
 
-same-length : tie.Need-same-length
-same-length c = search needs
-
-same-length-2 : tie.Need-same-length-2
-same-length-2 c = search needs
-
 returns : tie.Need-returns
-unfolding seenOf leaving setupFrom ofEach
-returns c words =
-    let k = c .before in
-    let s = k .before .before .before .before .before .before .before .before .before .before .before .before in
-    rw (c .give-whole .ensures)
-    (ap (λ (o : Outcome). seenOf (leaving (now (s .args .reply)) o)) (k .setup .ensures words))
+unfolding seenOf setupFrom ofEach
+returns c words = rw (c .give-whole .ensures) (ap seenOf (c .before .setup .ensures words))
 
 pub setup-spec : {M : Type 1} → statement M
 setup-spec =
@@ -50,6 +37,4 @@ setup-spec =
     array-copy-out-p3
     setup-requires
     give-whole-requires
-    same-length
-    same-length-2
     returns)

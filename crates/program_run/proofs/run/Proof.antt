@@ -84,7 +84,9 @@ add-ended : tie.Need-add-ended Inv-loop μ-loop
 add-ended c =
     let l = c .before .before .before .before in
     let g = l .before .loop .inv .0 in
-    omega (arith, g .same, g .room, l .loop-test .taken)
+    let fits : length (l .before .loop .output) < most =
+    omega (arith, g .same, l .before .before .before .before .before .before .before .good .1 .1 .1 .1 .1 .0 .1) in
+    omega (arith, fits, g .same, g .room, l .loop-test .taken)
 
 ended-requires-2 : tie.Need-ended-requires-2 Inv-loop μ-loop
 ended-requires-2 c κs = search needs

@@ -60,23 +60,49 @@ returns-2 c =
     let f = c .before .before in
     λ regs. rw (held f regs, tested f regs ∙ not-true _ (c .before .if2 .taken)) (c .fail2 .ensures _ _ _ regs)
 
+sub-has-protected : tie.Need-sub-has-protected
+sub-has-protected c =
+    let e = c .before .before in
+    site-low (world-at (e .before) []) (start (e .before) .args .val) (free e [])
+
+has-protected-requires : tie.Need-has-protected-requires
+has-protected-requires c κs = search needs
+
 fail-requires-3 : tie.Need-fail-requires-3
 fail-requires-3 c κs = search needs
 
+-- from where the site is found to be off the protected stretch or not
+abbrev left-at : tie.After-has-protected → tie.Else2
+left-at h = h .before .before .before
+
 returns-3 : tie.Need-returns-3
-unfolding setBreakpoint wellFormed
+unfolding setBreakpoint
 returns-3 c =
-    let e = c .before .before .before in
+    let h = c .before .before in
+    let e = left-at h in
+    λ regs. rw (held (e .before) regs, free e regs, sym (h .has-protected .ensures) ∙ c .before .if3 .taken)
+    (c .fail3 .ensures _ _ _ regs)
+
+fail-requires-4 : tie.Need-fail-requires-4
+fail-requires-4 c κs = search needs
+
+returns-4 : tie.Need-returns-4
+unfolding setBreakpoint wellFormed
+returns-4 c =
+    let o = c .before .before .before in
+    let h = o .before in
+    let e = left-at h in
     let f = e .before in
     λ regs. rw (
       held f regs,
       free e regs,
-      ne-eqb _ 1 (λ h. c .before .if3 .taken (start f .pre .depth ∙ h)),
-    ) (c .fail3 .ensures _ _ _ regs)
+      sym (h .has-protected .ensures) ∙ o .if3 .left,
+      ne-eqb _ 1 (λ h. c .before .if4 .taken (start f .pre .depth ∙ h)),
+    ) (c .fail4 .ensures _ _ _ regs)
 
 plant-requires : tie.Need-plant-requires
 plant-requires c κs =
-    let e = c .before .before .before .before in
+    let e = left-at (c .before .before .before .before .before) in
     let f = e .before in
     let w = world-at f [] in
     let s = start f in
@@ -96,13 +122,20 @@ plant-requires c κs =
 same-length : tie.Need-same-length
 same-length c = search needs
 
-returns-4 : tie.Need-returns-4
+returns-5 : tie.Need-returns-5
 unfolding setBreakpoint wellFormed
-returns-4 c =
+returns-5 c =
     let p = c .before .before in
     let t = p .before .before .before in
-    let e = t .before .before in
-    λ regs. rw (held (e .before) regs, free e regs, eq-eqb _ 1 (sym (start (e .before) .pre .depth) ∙ t .if3 .left))
+    let o = t .before .before in
+    let h = o .before in
+    let e = left-at h in
+    λ regs. rw (
+      held (e .before) regs,
+      free e regs,
+      sym (h .has-protected .ensures) ∙ o .if3 .left,
+      eq-eqb _ 1 (sym (start (e .before) .pre .depth) ∙ t .if4 .left),
+    )
     (p .plant .ensures regs)
 
 pub set-spec : {M : Type 1} → statement M
@@ -114,8 +147,12 @@ set-spec =
     site-free-requires
     fail-requires-2
     returns-2
+    sub-has-protected
+    has-protected-requires
     fail-requires-3
     returns-3
+    fail-requires-4
+    returns-4
     plant-requires
     same-length
-    returns-4)
+    returns-5)

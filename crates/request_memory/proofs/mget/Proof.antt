@@ -7,10 +7,12 @@ use native.Mathlib.Omega.{arith}
 use borrow.Author.Needs.{needs}
 use denote.Ref.{now}
 use lib.ListN.{length}
-use Rattle.memory.specs.Place.{placeOf, stretchOf}
+use Rattle.memory.specs.Place.{placeOf, namedBy, stretchOf}
+use Rattle.memory.specs.declared.Access.the-variants.{Read}
 use Rattle.memory.specs.declared.Place.{Place}
 use Rattle.memory.specs.declared.Place.the-variants.{Registers, Window}
-use Rattle.memory.proofs.Parts.{named, within-registers, within-window, read-window}
+use Rattle.memory.proofs.Parts.{within-registers, within-window, read-window}
+use Rattle.memory.proofs.Protected.{read-named}
 use Rattle.rules.specs.Outcome.{World, world}
 use Rattle.target.specs.View.{viewOf}
 use Rattle.rules.specs.Request.{gotFrom}
@@ -21,19 +23,23 @@ use Rattle.request_memory.proofs.mget.Statement.{statement}
 use Rattle.request_memory.proofs.mget.Tie as tie
 
 -- where the place was found, and where the code starts, from where the stretch is
-abbrev place-at : tie.After-stretch → tie.After-place-of
+abbrev place-at : tie.After-stretch → tie.After-named-by
 place-at z = z .before .before .before
 
 abbrev start : tie.After-stretch → tie.Start
-start z = place-at z .before .before .before .before
+start z = place-at z .before .before .before .before .before
 
 abbrev world-at : tie.After-stretch → List ℕ → World
 world-at z words = let a = start z .args in world (viewOf (a .t) words) (now (a .mem)) (now (a .regs))
 
 -- the place that is found is the one that the address names, of a window of the record's size and of the memory's
-module _ (z : tie.After-stretch) (q : Place) (e : place-at z .place-of .result ≡ q) where
+module _ (z : tie.After-stretch) (q : Place) (e : place-at z .named-by .result ≡ q) where
+  place-named : let a = start z .args in
+      namedBy Read (a .t .protected) (a .t .base) (a .t .size) (a .addr) (a .n) ≡ q
+  place-named = sym (place-at z .named-by .ensures) ∙ e
+
   place-is : let a = start z .args in placeOf (a .t .base) (a .t .size) (a .addr) (a .n) ≡ q
-  place-is = named _ _ _ _ _ _ (place-at z .place-of .ensures) e
+  place-is = sym (read-named _ _ _ _ _) ∙ place-named
 
   place-in : let a = start z .args in placeOf (a .t .base) (length (now (a .mem))) (a .addr) (a .n) ≡ q
   place-in = let a = start z .args in ap (λ (n : ℕ). placeOf (a .t .base) n (a .addr) (a .n)) (start z .pre .1)
@@ -58,17 +64,17 @@ rmget-requires c κs = search needs
 returns : tie.Need-returns
 returns c words f = got-none _ _ _ (c .rmget .ensures) _ _ refl (c .before .if1 .taken)
 
-place-of-requires : tie.Need-place-of-requires
-place-of-requires c κs = search needs
+named-by-requires : tie.Need-named-by-requires
+named-by-requires c κs = search needs
 
 block-of-requires : tie.Need-block-of-requires
 block-of-requires c κs =
-    let l = c .before .before .before .before .pre .0 in
+    let l = c .before .before .before .before .before .pre .0 in
     (l .few, l .current)
 
 block-part-requires : tie.Need-block-part-requires
 block-part-requires c κs =
-    let s = c .before .before .before .before .before in
+    let s = c .before .before .before .before .before .before in
     λ i e. block-within (s .args .t) [] _ (s .pre .0) _ i (c .block-of .ensures []) e
 
 stretch-requires : tie.Need-stretch-requires
@@ -100,6 +106,12 @@ enum-told-3 c = search needs
 rerr-requires : tie.Need-rerr-requires
 rerr-requires c κs = search needs
 
+enum-told-4 : tie.Need-enum-told-4
+enum-told-4 c = search needs
+
+rerr-requires-2 : tie.Need-rerr-requires-2
+rerr-requires-2 c κs = search needs
+
 returns-2 : tie.Need-returns-2
 unfolding stretchOf
 returns-2 c words f =
@@ -108,7 +120,8 @@ returns-2 c words f =
     let s = start z in
     let b = z .before .before in
     let q = place-is z Registers (e .enum-told .given .1) in
-    got-from (world-at z words) _ _ (place-at z .before .if1 .left) _ q _
+    got-from (world-at z words) _ _ (place-at z .before .before .if1 .left) _
+    (place-named z Registers (e .enum-told .given .1)) _
     (got-registers (world-at z words) _ _ _ (b .block-of .ensures words)
     (λ i g. block-within (s .args .t) words _ (s .pre .0) _ i (b .block-of .ensures words) g)
     (within-registers _ _ _ _ q) _
@@ -121,7 +134,8 @@ returns-3 c words f =
     let z = e .before .before in
     let s = start z in
     let a = s .args in
-    got-from (world-at z words) _ _ (place-at z .before .if1 .left) _ (place-is z Window (e .enum-told2 .given .1)) _
+    got-from (world-at z words) _ _ (place-at z .before .before .if1 .left) _
+    (place-named z Window (e .enum-told2 .given .1)) _
     (got-window (world-at z words) _ _ (c .rmget2 .ensures) (a .addr) (a .n)
     (rw (← f .sites, ← f .plain)
     (p .read .ensures
@@ -133,8 +147,16 @@ unfolding gotFrom
 returns-4 c words f =
     let e = c .before in
     let z = e .before .before in
-    got-from (world-at z words) _ _ (place-at z .before .if1 .left) _ (place-is z _ (e .enum-told3 .given .1)) _
-    (refuses _ _ _ (c .rerr .ensures))
+    got-from (world-at z words) _ _ (place-at z .before .before .if1 .left) _
+    (place-named z _ (e .enum-told3 .given .1)) _ (refuses _ _ _ (c .rerr .ensures))
+
+returns-5 : tie.Need-returns-5
+unfolding gotFrom
+returns-5 c words f =
+    let e = c .before in
+    let z = e .before .before in
+    got-from (world-at z words) _ _ (place-at z .before .before .if1 .left) _
+    (place-named z _ (e .enum-told4 .given .1)) _ (refuses _ _ _ (c .rerr2 .ensures))
 
 pub mget-spec : {M : Type 1} → statement M
 mget-spec =
@@ -142,7 +164,7 @@ mget-spec =
     (tie.spec
     rmget-requires
     returns
-    place-of-requires
+    named-by-requires
     block-of-requires
     block-part-requires
     stretch-requires
@@ -154,6 +176,9 @@ mget-spec =
     rmget-requires-2
     enum-told-3
     rerr-requires
+    enum-told-4
+    rerr-requires-2
     returns-2
     returns-3
-    returns-4)
+    returns-4
+    returns-5)

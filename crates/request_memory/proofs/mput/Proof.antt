@@ -9,7 +9,8 @@ use lib.ListN.{length, take}
 use lib.Seq.{length-take-le}
 use Rattle.memory.specs.Head.{house}
 use Rattle.memory.specs.declared.Place.the-variants.{Window}
-use Rattle.memory.proofs.Parts.{named, within-registers, within-window}
+use Rattle.memory.proofs.Parts.{within-registers, within-window}
+use Rattle.memory.proofs.Protected.{write-registers, write-window}
 use Rattle.step_effect.specs.Change.{stored}
 use mathlib.Core.List.{List}
 use Rattle.rules.specs.Outcome.{world, Outcome}
@@ -32,8 +33,8 @@ unfolding stored
 returns c words f = rw (c .answering .ensures)
     (put-none _ _ _ _ (c .before .if1 .taken) _ (c .before .before .bytes-of .ensures))
 
-place-of-requires : tie.Need-place-of-requires
-place-of-requires c κs = search needs
+named-by-requires : tie.Need-named-by-requires
+named-by-requires c κs = search needs
 
 enum-told : tie.Need-enum-told
 enum-told c = search needs
@@ -49,11 +50,11 @@ unfolding bytes4
 put-registers-requires c κs =
     let e = c .before .before in
     let k = e .before .before in
-    let s = k .before .before .before .before .before in
+    let s = k .before .before .before .before .before .before in
     let a = s .args in
     let h =
     within-registers (a .t .base) (a .t .size) (a .addr) (a .n)
-    (named _ _ _ _ _ _ (k .place-of .ensures) (e .enum-told .given .1)) in
+    (write-registers (a .t .protected) _ _ _ _ (sym (k .named-by .ensures) ∙ e .enum-told .given .1)) in
     let z = length-take-le (a .n) (bytes4 (a .d)) (s .pre .1) in
     (s .pre .0 .0, omega arith)
 
@@ -65,7 +66,7 @@ enum-told-2 c = search needs
 
 -- where the code starts, from where the window is named
 abbrev start : tie.After-enum-told2 → tie.Start
-start e = e .before .before .before .before .before .before .before
+start e = e .before .before .before .before .before .before .before .before
 
 -- the bytes lie in the window
 inside : (e : tie.After-enum-told2)
@@ -74,7 +75,7 @@ inside e =
     let k = e .before .before in
     let a = start e .args in
     within-window (a .t .base) (a .t .size) (a .addr) (a .n)
-    (named _ _ _ _ _ _ (k .place-of .ensures) (e .enum-told2 .given .1))
+    (write-window (a .t .protected) _ _ _ _ (sym (k .named-by .ensures) ∙ e .enum-told2 .given .1) .0)
 
 array-share-prefix-bytes-2 : tie.Need-array-share-prefix-bytes-2
 array-share-prefix-bytes-2 c = search needs
@@ -104,6 +105,15 @@ rerr-requires c κs = search needs
 answering-requires-3 : tie.Need-answering-requires-3
 answering-requires-3 c κs = search needs
 
+enum-told-4 : tie.Need-enum-told-4
+enum-told-4 c = search needs
+
+rerr-requires-2 : tie.Need-rerr-requires-2
+rerr-requires-2 c κs = search needs
+
+answering-requires-4 : tie.Need-answering-requires-4
+answering-requires-4 c κs = search needs
+
 same-length : tie.Need-same-length
 same-length c = search needs
 
@@ -113,11 +123,11 @@ returns-2 c words f =
     let p = c .before .before .before in
     let e = p .before .before .before in
     let k = e .before .before in
-    let a = k .before .before .before .before .before .args in
+    let a = k .before .before .before .before .before .before .args in
     rw (c .answering2 .ensures)
     (put-to (world (viewOf (a .t) words) (now (a .mem)) (now (a .regs))) (a .addr) (a .n) (a .d)
-    (k .before .if1 .left) _
-    (named _ _ _ _ _ _ (k .place-of .ensures) (e .enum-told .given .1)) _
+    (k .before .before .if1 .left) _
+    (sym (k .named-by .ensures) ∙ e .enum-told .given .1) _
     (p .put-registers .ensures words (now (a .mem))))
 
 same-length-2 : tie.Need-same-length-2
@@ -132,19 +142,28 @@ returns-3 c words f =
     let a = start e .args in
     rw (c .of .ensures)
     (put-to (world (viewOf (a .t) words) (now (a .mem)) (now (a .regs))) (a .addr) (a .n) (a .d)
-    (k .before .if1 .left) Window
-    (named _ _ _ _ _ _ (k .place-of .ensures) (e .enum-told2 .given .1)) _
+    (k .before .before .if1 .left) Window
+    (sym (k .named-by .ensures) ∙ e .enum-told2 .given .1) _
     (put-wrote _ _ _ _ _ (p .put-window .ensures words (now (a .regs)) f)
-    (k .before .before .bytes-of .ensures)))
+    (k .before .before .before .bytes-of .ensures)))
 
 returns-4 : tie.Need-returns-4
 unfolding putTo stored
 returns-4 c words f =
     let k = c .before .before .before .before in
     rw (c .answering3 .ensures)
-    (put-to _ _ _ _ (k .before .if1 .left) _
-    (named _ _ _ _ _ _ (k .place-of .ensures) (c .before .before .enum-told3 .given .1)) _
+    (put-to _ _ _ _ (k .before .before .if1 .left) _
+    (sym (k .named-by .ensures) ∙ c .before .before .enum-told3 .given .1) _
     (refuses _ _ _ (c .before .rerr .ensures)))
+
+returns-5 : tie.Need-returns-5
+unfolding putTo stored
+returns-5 c words f =
+    let k = c .before .before .before .before in
+    rw (c .answering4 .ensures)
+    (put-to _ _ _ _ (k .before .before .if1 .left) _
+    (sym (k .named-by .ensures) ∙ c .before .before .enum-told4 .given .1) _
+    (refuses _ _ _ (c .before .rerr2 .ensures)))
 
 pub mput-spec : {M : Type 1} → statement M
 mput-spec =
@@ -153,7 +172,7 @@ mput-spec =
     bytes-of-requires
     answering-requires
     returns
-    place-of-requires
+    named-by-requires
     enum-told
     array-share-prefix-bytes
     slice-aggregate-put-registers
@@ -167,8 +186,12 @@ mput-spec =
     enum-told-3
     rerr-requires
     answering-requires-3
+    enum-told-4
+    rerr-requires-2
+    answering-requires-4
     same-length
     returns-2
     same-length-2
     returns-3
-    returns-4)
+    returns-4
+    returns-5)

@@ -8,7 +8,7 @@ use denote.Ref.{now}
 use lib.ListN.{length}
 use Rattle.rules.specs.Text.{completed}
 use Rattle.step_effect.specs.Change.{stored}
-use Rattle.request_text.proofs.Laws.{word-unaligned, word-outside, word-found, fetched-inside}
+use Rattle.request_text.proofs.Laws.{word-unaligned, word-outside, word-found, fetched-inside, writable-no, writable-yes}
 use Rattle.request_text.proofs.word.Statement.{statement}
 use Rattle.request_text.proofs.word.Tie as tie
 
@@ -72,6 +72,34 @@ inside e =
     let x = fetch-at e in
     fetched-inside _ _ _ _ _ _ (sym (x .fetch .ensures) ∙ e .before .before .found .given .1)
 
+-- where it is found to be off the protected stretch or not
+abbrev left-at : tie.After-has-protected → tie.Else2
+left-at f = f .before .before .before .before
+
+sub-has-protected : tie.Need-sub-has-protected
+sub-has-protected c = inside (c .before .before .before) .0
+
+has-protected-requires : tie.Need-has-protected-requires
+has-protected-requires c κs = search needs
+
+kept-requires-4 : tie.Need-kept-requires-4
+kept-requires-4 c κs = search needs
+
+same-length-3 : tie.Need-same-length-3
+same-length-3 c = search needs
+
+returns-4 : tie.Need-returns-4
+unfolding stored
+returns-4 c words regs f =
+    let h = c .before .before in
+    let e = left-at h in
+    let x = fetch-at e in
+    let b = x .before .before .before .before .before .before in
+    rw (c .kept4 .ensures, not-false (begins x .args .writes) (e .if2 .left))
+    (writable-no _ _ _ (sym (h .has-protected .ensures) ∙ c .before .if3 .taken)
+    ∙ word-found _ _ _ (b .if1 .left) _ _ (f .sites) (f .plain) _ (x .fetch .ensures) _
+    (e .before .before .found .given .1))
+
 low-first-requires : tie.Need-low-first-requires
 low-first-requires c κs = search needs
 
@@ -80,23 +108,26 @@ slice-aggregate-put-window c = search needs
 
 put-window-requires : tie.Need-put-window-requires
 put-window-requires c κs =
-    let e = c .before .before .before in
+    let e = left-at (c .before .before .before .before) in
     let s = begins (fetch-at e) in
     let i = inside e in
     (s .pre, i .0, omega (arith, s .pre, i .0, i .1))
 
-same-length-3 : tie.Need-same-length-3
-same-length-3 c = search needs
+same-length-4 : tie.Need-same-length-4
+same-length-4 c = search needs
 
-returns-4 : tie.Need-returns-4
-returns-4 c words regs f =
+returns-5 : tie.Need-returns-5
+returns-5 c words regs f =
     let p = c .before .before .before in
     let l = p .before .before .before in
-    let e = l .before in
+    let o = l .before in
+    let h = o .before in
+    let e = left-at h in
     let x = fetch-at e in
     let b = x .before .before .before .before .before .before in
     rw (not-false (begins x .args .writes) (e .if2 .left), ← l .low-first .ensures)
     (ap (completed _) (p .put-window .ensures words regs f)
+    ∙ writable-yes _ _ _ (sym (h .has-protected .ensures) ∙ o .if3 .left)
     ∙ word-found _ _ _ (b .if1 .left) _ _ (f .sites) (f .plain) _ (x .fetch .ensures) _
     (e .before .before .found .given .1))
 
@@ -115,8 +146,13 @@ word-spec =
     kept-requires-3
     same-length-2
     returns-3
+    sub-has-protected
+    has-protected-requires
+    kept-requires-4
+    same-length-3
+    returns-4
     low-first-requires
     slice-aggregate-put-window
     put-window-requires
-    same-length-3
-    returns-4)
+    same-length-4
+    returns-5)

@@ -1,12 +1,11 @@
 -- `sanirvoq_step_setup` meets its contract: the walk of `ThinWhole.antt`, at this function's callee and relation.
-use mathlib.Core.List.{List}
+use mathlib.Core.List.{List, []}
 use mathlib.Core.Path.{_≡_}
 use Prim.Native.Nat.{ℕ}
 use contract.Running.{givenOf, tables, tablesOf}
 use denote.Triple.Spec.{tripleOf}
 use denote.Triple.Table.{entered, cited}
 use Rattle.rules.specs.Outcome.{world}
-use Rattle.step.specs.Kinds.{leaving}
 use Rattle.capi_results.specs.Seen.{seen, seenOf, setupFrom}
 use Rattle.target.specs.View.{viewOf}
 use Rattle.sanirvoq.proofs.ThinWhole.{Whole-rel, Inner, thin-meets}
@@ -20,9 +19,8 @@ use Rattle.sanirvoq.proofs.sanirvoq_step_setup.Code as code
 
 -- with any pool, which a setup does not touch
 abbrev φ : Whole-rel
-φ h ms gs p v i os n h′ ms′ gs′ os′ =
-    (words : List ℕ)
-    → seen n (viewOf h′ words) ms′ gs′ os′ ≡ seenOf (leaving os (setupFrom (world (viewOf h words) ms gs)))
+φ h ms gs from to n h′ =
+    (words : List ℕ) → seen n (viewOf h′ words) ms gs [] ≡ seenOf (setupFrom (world (viewOf h words) ms gs) from to)
 
 pub sanirvoq-step-setup-spec : {M : Type 1} → stated.statement M
 unfolding code.routine tablesOf
