@@ -156,6 +156,7 @@ class FrameExchange:
 
     def text(self, request: bytes) -> bytes:
         """A text request as a line between the packets; the reply is the line with the same PID and letter."""
+        self._take_backlog()  # a late reply must not be taken for this one's: texts carry no sequence
         self._log.text(">", request)
         self.counts.sent += 1
         self._link.send(request + b"\n")

@@ -104,7 +104,8 @@ BAD = ["frog", "re", "read", "read 0x1000", "read 0x1000 0", "read 0x1000 x", "r
        "window 0x1001 4", "window 0x1000 5", "window 0x10 4", "protected 0x1001 0x1004", "protected 0x1008 0x1004",
        "line 3", "log 0", "decode", "decode /no/such/file", "text", "text ii 0x1000", "text i", "text I 0x1000",
        "text i frog", "restart now", "event", "event frog", "event trap 7", "event trap 7 at 0x1008", "run",
-       "run /no/such/file", "run /tmp", "save 0x1000 4 /tmp", "map svg /tmp", "write 0x1000 file /tmp", "help frog", 'read "0x1000', "write 0x1000 \x01"]
+       "run /no/such/file", "run /tmp", "save 0x1000 4 /tmp", "map svg /tmp", "write 0x1000 file /tmp", "help frog",
+       'read "0x1000', "write 0x1000 \x01"]
 
 
 @pytest.mark.parametrize("line", BAD)

@@ -1,4 +1,4 @@
-"""The protected stretch: the head refuses, and nothing is changed; what this side is told, it refuses before sending."""
+"""The protected stretch: the head refuses and nothing is changed; told of it, this side refuses before sending."""
 
 from __future__ import annotations
 

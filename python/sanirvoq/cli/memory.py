@@ -169,7 +169,8 @@ COMMANDS = [
             "Red bytes lie under a trap that was set from here, yellow ones changed since they were first seen.",
             "memory"),
     Command("save", "save ADDRESS LENGTH FILE", "a stretch into a file; interrupted, the same command goes on", save,
-            "Reads nine bytes at a time. What has come is in FILE.part until all is there; it is not read again.", "memory"),
+            "Reads nine bytes at a time. What has come is in FILE.part until all is there; it is not read again.",
+            "memory"),
     Command("write", "write ADDRESS [hex] PAIRS | bytes NUMBERS | file FILE [resume]",
             "writes, reads back and compares", write,
             "Sends four bytes at a time. A refusal on the way puts the old bytes back. After an interruption the same\n"

@@ -153,7 +153,8 @@ COMMANDS = [
     Command("status", "status PID", "the state of one process", status, group="processes"),
     Command("stop", "stop PID", "stops a process when it is next scheduled", stop, group="processes"),
     Command("continue", "continue PID", "lets a Stopped process go on, or takes a wanted stop back", go_on,
-            "A breakpoint where it stands stays. Never sent twice: if its answer is lost, look with `status` before you give it again.", "processes"),
+            "A breakpoint where it stands stays. Never sent twice: if its answer is lost, look with `status` before\n"
+            "you give it again.", "processes"),
     Command("wait", "wait PID [SECONDS]", "waits until a process is Stopped (10 s) and says where", wait,
             group="processes"),
     Command("select", "select PID", "makes a process current, for `registers`, `set` and `text r`", select,
