@@ -136,9 +136,12 @@ class FrameExchange:
     def _take_lines(self, piece: bytes) -> None:
         """Lines of text between the packets: what the head says by itself."""
         for line in self._text_lines(piece):
-            self._log.note(f"the head says: {line}")
-            for told in self.notices.said:
-                told(line)
+            self._hear(line)
+
+    def _hear(self, line: str) -> None:
+        self._log.note(f"the head says: {line}")
+        for told in self.notices.said:
+            told(line)
 
     def _text_lines(self, piece: bytes) -> list[str]:
         """Whole lines of printable bytes. A packet has a high bit or a control byte everywhere, so none is a line."""
@@ -169,6 +172,7 @@ class FrameExchange:
                 if line.encode().startswith(head):
                     self._log.text("<", line.encode())
                     return line.encode()
+                self._hear(line)
         raise LineError("no text reply: this head may not speak the text dialect, or the line lost it", known=False)
 
     def restart(self) -> str:
