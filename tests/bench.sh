@@ -21,16 +21,21 @@ python=python3
     exit 1
 }
 
+results=../target/bench.xml
+mkdir -p ../target && rm -f "$results"
 types=1
 "$python" -m mypy --strict -p sanirvoq && types=0
-"$python" -m pytest -q --require-all --junit-xml=../target/bench.xml "$@"
-"$python" - "$types" << 'COUNT'
+"$python" -m pytest -q --require-all --junit-xml="$results" "$@"
+# What was left out counts as failed, and so do the types and a run that ended before its results.
+"$python" - "$types" "$results" << 'COUNT'
 import sys
 import xml.etree.ElementTree as ElementTree
-suite = ElementTree.parse("../target/bench.xml").getroot().find("testsuite")
-number = {name: int(suite.get(name)) for name in ("tests", "failures", "errors", "skipped")}
-failed = number["failures"] + number["errors"] + number["skipped"] + (sys.argv[1] != "0")
-passed = number["tests"] + 1 - failed
-print(f"{passed} passed, {failed} failed")
-sys.exit(failed != 0)
+wrong_types, results = int(sys.argv[1]), sys.argv[2]
+try:
+    suite = ElementTree.parse(results).getroot().find("testsuite")
+    tests, failed = int(suite.get("tests")), sum(int(suite.get(name)) for name in ("failures", "errors", "skipped"))
+except OSError:
+    tests, failed = 1, 1
+print(f"{tests + 1 - failed - wrong_types} passed, {failed + wrong_types} failed")
+sys.exit(failed + wrong_types != 0)
 COUNT
