@@ -177,12 +177,15 @@ class FrameExchange:
 
     def restart(self) -> str:
         """Asks a head to practise with for a restart."""
+        self._take_backlog()
         self._log.note("a restart is asked for")
         self._link.send(RESTART)
         before = self._resets
         end = time.monotonic() + self._settings.seconds
         while (left := end - time.monotonic()) > 0:
-            for packet in self._reader.feed(self._link.receive(left)):
+            piece = self._link.receive(left)
+            self._take_lines(piece)
+            for packet in self._reader.feed(piece):
                 self._is_reply(packet, set())
             if self._resets > before:
                 return "Rerr reset"

@@ -35,7 +35,8 @@ def free_port() -> int:
 
 
 def await_port(process: subprocess.Popen[bytes], port: int) -> None:
-    """Until qemu listens at its port. It takes one caller, so nobody calls to try: its listening is looked up."""
+    """Until qemu listens at its port. The head starts when somebody calls, so nobody calls to try: its listening is
+    looked up."""
     end = time.monotonic() + PATIENCE
     while time.monotonic() < end:
         if process.poll() is not None:
@@ -52,7 +53,7 @@ def running() -> Iterator[str]:
     """A head that runs; the address to connect to."""
     port = free_port()
     command = [EMULATOR, "-machine", "virt", "-bios", "none", "-display", "none", "-monitor", "none",
-               "-serial", f"tcp:127.0.0.1:{port},server=on,wait=off,nodelay=on", "-kernel", str(image())]
+               "-serial", f"tcp:127.0.0.1:{port},server=on,wait=on,nodelay=on", "-kernel", str(image())]
     process = subprocess.Popen(command, start_new_session=True, stderr=subprocess.PIPE)
     try:
         await_port(process, port)

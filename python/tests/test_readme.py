@@ -17,12 +17,12 @@ def test_there_are_sessions() -> None:
     assert blocks("practice") and blocks("qemu")
 
 
-@pytest.mark.parametrize("block", blocks("practice"))
+@pytest.mark.parametrize("block", blocks("practice"), ids=lambda block: "session")
 def test_practice(block: str, tmp_path: Path) -> None:
     assert comparable(session("practice", block, tmp_path)) == comparable(block)
 
 
-@pytest.mark.parametrize("block", blocks("qemu"))
+@pytest.mark.parametrize("block", blocks("qemu"), ids=lambda block: "session")
 def test_qemu(block: str, tmp_path: Path, required: Callable[[bool, str], None]) -> None:
     required(shutil.which(qemu.EMULATOR) is not None, "apt-get install qemu-system-misc")
     required((REPOSITORY / qemu.IMAGE).is_file(), "make it with examples/head/build.sh")

@@ -89,6 +89,10 @@ class Bench:
             self._last_said[form] = line
             self.output.notice(f"head: {line}")
 
+    def last_said(self) -> list[str]:
+        """The last line of each kind that the head said."""
+        return [line for _, line in sorted(self._last_said.items())]
+
     def _restarted(self) -> None:
         stood = len(self.belief.breakpoints)
         self.belief.restarted()

@@ -64,10 +64,10 @@ def line(bench: Bench, words: Words) -> Result:
 
 
 def says(bench: Bench, words: Words) -> Result:
-    count = words.number("how many", least=1) if words.more() else 10
+    count = words.number("how many", least=1) if words.more() else 0
     words.end()
     bench.head.request(read(0, 0))  # what has come since is taken in with its answer
-    lines = list(bench.said)[-count:]
+    lines = list(bench.said)[-count:] if count else bench.last_said()
     return Result({"said": lines}, list(lines) or ["the head has said nothing by itself"])
 
 
@@ -170,8 +170,9 @@ COMMANDS = [
     Command("line", "line", "what the line did: requests, sent again, bad packets", line, group="line"),
     Command("log", "log [COUNT]", "the last exchanges with their times and meanings (--log FILE keeps all)", show_log,
             group="line"),
-    Command("says", "says [COUNT]", "the last lines that the head said by itself", says,
-            "A line is shown by itself only where its numbers are others than the last time.", "line"),
+    Command("says", "says [COUNT]", "what the head says by itself: the last line of each kind, or the last lines", says,
+            "Lines that differ in their numbers only are of one kind. One is shown unasked where its numbers are\n"
+            "others than the last time.", "line"),
     Command("decode", "decode FILE [log | frames | blocks]", "tells a log, or a capture of raw bytes", decode,
             group="line"),
     Command("text", "text [LETTER ADDRESS [DATA]]", "a request of the old text dialect; alone: a prompt for it", text,
