@@ -8,6 +8,7 @@ from typing import Callable, Protocol
 
 from .errors import LineError
 from .frames import RESTART, Answer, FrameReader, Packet, frame
+from .lines import LineReader
 from .links import Link, drain
 from .log import Log
 from .messages import SIZE, Kind, Message, encode, read, rerr
@@ -69,7 +70,7 @@ class FrameExchange:
         self._link, self._log, self._settings = link, log, settings
         self._reader = FrameReader()
         self._sequence = 0
-        self._line = b""
+        self._lines = LineReader()
         self._resets = 0
         self.counts = Counts()
         self.notices = Notices()
@@ -135,27 +136,13 @@ class FrameExchange:
 
     def _take_lines(self, piece: bytes) -> None:
         """Lines of text between the packets: what the head says by itself."""
-        for line in self._text_lines(piece):
+        for line in self._lines.feed(piece):
             self._hear(line)
 
     def _hear(self, line: str) -> None:
         self._log.note(f"the head says: {line}")
         for told in self.notices.said:
             told(line)
-
-    def _text_lines(self, piece: bytes) -> list[str]:
-        """Whole lines of printable bytes. A packet has a high bit or a control byte everywhere, so none is a line."""
-        lines = []
-        for byte in piece:
-            if byte == 0x0A:
-                if self._line:
-                    lines.append(self._line.decode("ascii"))
-                self._line = b""
-            elif 0x20 <= byte < 0x7F:
-                self._line += bytes([byte])
-            elif byte != 0x0D:
-                self._line = b""
-        return lines
 
     def text(self, request: bytes) -> bytes:
         """A text request as a line between the packets; the reply is the line with the same PID and letter."""
@@ -168,7 +155,7 @@ class FrameExchange:
         while (left := end - time.monotonic()) > 0:
             piece = self._link.receive(left)
             self._reader.feed(piece)
-            for line in self._text_lines(piece):
+            for line in self._lines.feed(piece):
                 if line.encode().startswith(head):
                     self._log.text("<", line.encode())
                     return line.encode()

@@ -42,9 +42,6 @@ class Picture:
     cell: int
     cells: list[Look]
 
-    def counts(self) -> dict[str, int]:
-        return {look.meaning: self.cells.count(look) for look in ORDER if look in self.cells}
-
 
 def cell_size(size: int) -> int:
     """The least power of two with which the window fits."""

@@ -12,7 +12,8 @@ from typing import Callable
 
 from .errors import CallError
 from .frames import Answer, FrameReader, frame
-from .messages import SIZE, STOPPED, Kind
+from .lines import LineReader
+from .messages import SIZE, Kind
 from .registers import NAMES, PC
 from .stub import BLOCK, PASS, STOP, Result, Setup, Stub
 
@@ -122,12 +123,6 @@ class Kernel:
                     return
             walker.advance()
 
-    def states(self) -> dict[int, int]:
-        return {process.pid: process.state for process in self.stub.target.processes if process.pid}
-
-    def is_stopped(self, pid: int) -> bool:
-        return self.states().get(pid) == STOPPED
-
 
 class FrameService:
     """The head's end of a line of frames, with text lines between them."""
@@ -135,7 +130,7 @@ class FrameService:
     def __init__(self, kernel: Kernel) -> None:
         self._kernel = kernel
         self._reader = FrameReader()
-        self._line = b""
+        self._lines = LineReader()
 
     def take(self, piece: bytes) -> bytes:
         """What the head sends back for a piece of the line. A bad packet is answered with nothing."""
@@ -145,19 +140,9 @@ class FrameService:
                 back += frame(packet.sequence, self._kernel.request(packet.body))
             elif packet.kind is Answer.PACKET and packet.identifier & 0xFFFF8000 == 0x8000 and not packet.body:
                 back += frame(packet.sequence, self._kernel.restart())
-        return back + self._texts(piece)
-
-    def _texts(self, piece: bytes) -> bytes:
-        back = b""
-        for byte in piece:
-            if byte == 0x0A:
-                reply = self._kernel.text(self._line)
-                back += reply + b"\n" if reply is not None else b""
-                self._line = b""
-            elif 0x20 <= byte < 0x7F:
-                self._line = (self._line + bytes([byte]))[-64:]
-            else:
-                self._line = b""
+        for line in self._lines.feed(piece):
+            reply = self._kernel.text(line.encode())
+            back += reply + b"\n" if reply is not None else b""
         return back
 
 

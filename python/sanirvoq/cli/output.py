@@ -51,22 +51,26 @@ class Output:
     def __init__(self, as_json: bool = False, colour: bool | None = None) -> None:
         self.as_json = as_json
         none = None if colour is None else not colour
-        self.console = Console(highlight=False, soft_wrap=True, no_color=none)
-        self.errors = Console(stderr=True, highlight=False, soft_wrap=True, no_color=none)
+        self.console = Console(highlight=False, markup=False, no_color=none)
+        self.errors = Console(stderr=True, highlight=False, markup=False, no_color=none)
 
     def show(self, name: str, result: Result) -> None:
         if self.as_json:
             self._json({"command": name, "ok": result.status == 0, **result.data})
             return
         for one in result.shown:
-            self.console.print(one, markup=False)
+            self.put(self.console, one, whole=isinstance(one, Text))
+
+    def put(self, console: Console, shown: RenderableType, whole: bool = False) -> None:
+        """A line: broken between words on a terminal, unless it is to stay whole; in a file or a pipe always whole."""
+        console.print(shown, soft_wrap=whole or not console.is_terminal)
 
     def notice(self, text: str) -> None:
         """What was not asked for: a restart of the head, a line that it says, a warning."""
         if self.as_json:
             self._json({"notice": text})
         else:
-            self.console.print(Text(text, style="cyan"))
+            self.put(self.console, Text(text, style="cyan"))
 
     def fail(self, line: str, error: BenchError, typed_at: int | None = None) -> None:
         """One line that says what is wrong. Where the fault has a place, a caret stands under it: under the line that
@@ -79,9 +83,11 @@ class Output:
         if isinstance(error, CommandError) and error.at is not None:
             caret = "^" * max(1, min(error.length, max(len(line) - error.at, 1)))
             if typed_at is None:
-                self.errors.print(Text(line))
+                self.put(self.errors, line, whole=True)
             shown = Text(" " * ((typed_at or 0) + error.at) + caret + " ", style="red").append(shown)
-        self.errors.print(shown)
+            self.put(self.errors, shown, whole=True)
+        else:
+            self.put(self.errors, shown)
 
     def _json(self, data: dict[str, Any]) -> None:
         print(json.dumps(data), flush=True)

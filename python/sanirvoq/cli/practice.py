@@ -50,8 +50,8 @@ def practice_parser() -> argparse.ArgumentParser:
 def greet(which: str, output: Output) -> None:
     output.notice(WELCOME[which])
     for at, step in enumerate(FIRST_STEPS[which]):
-        output.console.print(f"{'      ' if at else 'try:  '}{step}", markup=False)
-    output.console.print("`help` lists all commands, the tab key completes, `quit` ends.", markup=False)
+        output.console.print(f"{'      ' if at else 'try:  '}{step}")
+    output.console.print("`help` lists all commands, the tab key completes, `quit` ends.")
 
 
 def run_practice(words: list[str], options: Options, output: Output, practise: PRACTISE) -> int:

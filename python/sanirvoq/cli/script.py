@@ -34,7 +34,7 @@ def run_file(bench: Bench, token: Token) -> Result:
         if line.split()[0] in ENDS:
             break
         if not bench.output.as_json:
-            bench.output.console.print(f"> {line}", markup=False)
+            bench.output.put(bench.output.console, f"> {line}", whole=True)
         try:
             name, result = execute(bench, line)
         except BenchError as error:
