@@ -53,8 +53,8 @@ class TextRefused(BenchError):
 
     status = 3
 
-    def __init__(self, errno: int, meaning: str) -> None:
-        super().__init__(f"the head refused (errno {errno}): {meaning}")
+    def __init__(self, errno: int, meaning: str, reply: str) -> None:
+        super().__init__(f"the head refused (errno {errno}): {meaning} [{reply}]")
         self.errno = errno
         self.meaning = meaning
 

@@ -29,7 +29,11 @@ def serve(descriptor: int, take: Service, noise: Noise | None = None) -> None:
 
 
 def in_background(descriptor: int, take: Service, noise: Noise | None = None) -> threading.Thread:
-    thread = threading.Thread(target=serve, args=(descriptor, take, noise), daemon=True)
+    """The same beside the rest of the program; the descriptor is closed at the end."""
+    def run() -> None:
+        serve(descriptor, take, noise)
+        os.close(descriptor)
+    thread = threading.Thread(target=run, daemon=True)
     thread.start()
     return thread
 

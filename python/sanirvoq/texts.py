@@ -59,5 +59,6 @@ def decode(text: bytes) -> TextPacket:
 def response(reply: TextPacket) -> int:
     """The response of a reply; an error where its flag says one."""
     if reply.third == ERROR_FLAG:
-        raise TextRefused(reply.fourth, ERRNO.get(reply.fourth, "an errno that the dialect does not have"))
+        meaning = ERRNO.get(reply.fourth, "an errno that the dialect does not have")
+        raise TextRefused(reply.fourth, meaning, encode(reply).decode())
     return reply.fourth
