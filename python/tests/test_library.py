@@ -6,7 +6,9 @@ import subprocess
 from pathlib import Path
 from typing import Callable
 
+import pytest
 from conftest import Ran
+from terminal import Person
 
 
 def test_no_archive(command: Callable[..., Ran], tmp_path: Path) -> None:
@@ -41,3 +43,18 @@ def test_linked_once(command: Callable[..., Ran], tmp_path: Path) -> None:
     first = made.stat().st_mtime_ns
     assert command("--head", "practice", "read", "0x1000", "4", env=cache).status == 0
     assert made.stat().st_mtime_ns == first
+
+
+def test_a_prompt_without_the_archive(tmp_path: Path, monkeypatch: pytest.MonkeyPatch) -> None:
+    """The practice head cannot be had either, so the prompt does not begin."""
+    monkeypatch.setenv("SANIRVOQ_LIB", str(tmp_path))
+    person = Person(tmp_path, "practice")
+    person.sees(lambda: False)
+    person.child.close()
+    assert person.child.exitstatus == 5 and "rt staticlib sanirvoq" in person.text()
+
+
+def test_a_prompt_without_a_terminal(command: Callable[..., Ran]) -> None:
+    for words in ([], ["practice"], ["--head", "practice"]):
+        ran = command(*words)
+        assert ran.status == 2 and "a prompt needs a terminal" in ran.err
