@@ -58,7 +58,7 @@ use Rattle.rules.specs.Stubs.{kindNumber, changing, rerrAlways, zerosAlw
 use Rattle.rules.specs.Stubs.{plantsFirstOnly, plantsNothing}
 use Rattle.rules.specs.Stubs.{removesAtStart, answersNothing}
 use Rattle.rules.specs.Stubs.{readsReal, findsNoSite, neverStops, acceptsStates, answersStates, zeroRestart}
-use Rattle.rules.specs.Stubs.{keepsTraps, storesNoWord, protectsNothing, alwaysUnfit}
+use Rattle.rules.specs.Stubs.{keepsTraps, storesNoWord, protectsNothing, clearsAtRestart, alwaysUnfit}
 use Rattle.rules.specs.Stubs.{passed, SaysAfter, RealAfter}
 
 unfoldable pub steps-compute : ℕ
@@ -96,5 +96,5 @@ unfolding steps-compute SaysAfter RealAfter Says passed opened fed isAccepted bo
     realBy sitesBy trapBy trapNumber answerAmong answerOf passBy startBy fetchBy readBy
     kindNumber changing rerrAlways zerosAlways requestLeaving storesNothing plantsFirstOnly plantsNothing
     readsReal removesAtStart answersNothing findsNoSite neverStops acceptsStates answersStates zeroRestart keepsTraps
-    protectsNothing alwaysUnfit
+    protectsNothing clearsAtRestart alwaysUnfit
 claim-computes = 0

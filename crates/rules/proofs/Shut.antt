@@ -25,10 +25,10 @@ use Rattle.common.specs.Text.{codes}
 use Prim.Native.Char.{code}
 use Rattle.rules.specs.Stubs.{Stage, firstStage, passed, SaysAfter, RealAfter, StubRow, part, guarded, memory}
 use Rattle.rules.specs.Stubs.{actsOf}
-use Rattle.rules.specs.Stubs.{SaysRow, guardedSetup, protectsNothing}
+use Rattle.rules.specs.Stubs.{SaysRow, protectsNothing, clearsAtRestart}
 use Rattle.rules.specs.Book.{realBy}
 use Rattle.rules.specs.Stubs.{stubRows}
-use Rattle.rules.specs.Worked.{workedSetup}
+use Rattle.rules.specs.Worked.{workedSetup, guardedSetup}
 use Rattle.rules.proofs.Computes.{claim-computes}
 use Rattle.rules.proofs.Worked.{setup-accepted, guarded-accepted}
 
@@ -204,6 +204,10 @@ texts-protected : SaysAfter guardedSetup protectedPart (stubOf protectsNothing) 
 unfolding claim-computes
 texts-protected c = apart (ap one (c 20 refl)) refl
 
+clears-protected : SaysAfter guardedSetup protectedPart (stubOf clearsAtRestart) [] restartNow → ⊥
+unfolding claim-computes
+clears-protected c = apart (ap one (c 16 refl)) refl
+
 pub stubs : (r : Reason) → AllShut (stubRows r)
 unfolding stubRows SaysRow
 stubs r =
@@ -231,4 +235,5 @@ stubs r =
     by-row _ writes-protected &
     by-row _ plants-protected &
     by-row _ texts-protected &
+    by-row _ clears-protected &
     none

@@ -48,7 +48,7 @@ use Rattle.request_parse.proofs.Exact.{exact}
 use Rattle.wire_laws.proofs.Messages.{messages}
 use Rattle.rules.proofs.Refusals.{refusals, setups}
 use Rattle.rules.proofs.Replies.{numbers, replies}
-use Rattle.rules.proofs.Worked.{setup-accepted, worked}
+use Rattle.rules.proofs.Worked.{setup-accepted, worked, guarded, stretches}
 use Rattle.rules.proofs.Shut.{stubs}
 use Rattle.rules.specs.Claims.{Claims}
 
@@ -235,8 +235,10 @@ claims = record {
   replies = replies;
   messages = messages;
   requests = exact;
-  workedSetup = setup-accepted;
+  workedAccepted = setup-accepted;
   worked = worked;
+  guarded = guarded;
+  stretches = stretches;
   demand3 = demand3;
   houseLawful = house-lawful;
   stubs = stubs;

@@ -32,7 +32,8 @@ use Rattle.text_packet_read.specs.Read.{readOf}
 use Rattle.text_packet_read.specs.declared.Reading.the-variants.{Accepted}
 use Rattle.rules.specs.Claim.{stubOf, rulesStub, Demand3}
 use Rattle.rules.specs.Places.{PlacesHeld, ruledPlaces, countingStub, ownPlaces, neverGivesBack, countsRefused}
-use Rattle.rules.specs.Worked.{workedSetup, after, workedRows}
+use Rattle.rules.specs.Worked.{workedSetup, withStretch, guardedSetup, after, workedRows, guardedRows}
+use Rattle.rules.specs.Worked.{stretchRows}
 use Rattle.rules.specs.Stubs.{StubRow, actsOf, SaysRow, stubRows}
 
 -- ---- demand 1: "A refused step other than a setup changes no byte of memory, no saved register, no breakpoint"
@@ -162,8 +163,11 @@ pub record Claims : Type 0 where
   pub messages : Messages
   pub requests : Exact
   -- "Marked (*) to be proved of the definitions, as a single table under a single statement"
-  pub workedSetup : setupBy workedSetup .number ≡ accepted
-  pub worked : map (λ r. after (stepOf house) (r .calls)) workedRows ≡ map (λ r. r .shows) workedRows
+  pub workedAccepted : setupBy workedSetup .number ≡ accepted
+  pub worked : map (λ r. after workedSetup (stepOf house) (r .calls)) workedRows ≡ map (λ r. r .shows) workedRows
+  -- 02, Five: after a setup that protects eight bytes, and which stretches a setup takes
+  pub guarded : map (λ r. after guardedSetup (stepOf house) (r .calls)) guardedRows ≡ map (λ r. r .shows) guardedRows
+  pub stretches : map (λ r. setupBy (withStretch (r .0) (r .1 .0)) .number) stretchRows ≡ map (λ r. r .1 .1) stretchRows
   -- demand 3, with every lawful head, of the rules' steps; the house's is one
   pub demand3 : (h : Head) → Lawful h → Demand3 h (rulesStub h)
   pub houseLawful : Lawful house

@@ -34,7 +34,7 @@ use Rattle.rules.specs.Book.{Book, opened, fed, realBy}
 use Rattle.rules.specs.Claim.{Stub, stubOf, Part, Says}
 use Rattle.rules.specs.Claim.{numberPart, answerPart, replyPart, fitPart, readsPart, trappedPart, trapPart}
 use Rattle.rules.specs.Claim.{startPart, restartPart, textPart, protectedPart}
-use Rattle.rules.specs.Worked.{workedSetup}
+use Rattle.rules.specs.Worked.{workedSetup, guardedSetup}
 
 abbrev pub Acts : Type 0
 Acts = Target → List ℕ → Step → Outcome
@@ -160,6 +160,12 @@ protectsNothing t mem e = stepOf house (record {
   table = t .table;
 }) mem e
 
+-- clears memory at a restart
+unfoldable pub clearsAtRestart : Acts
+clearsAtRestart = changing 5
+    (λ t mem e o.
+    outcome (o .number) (o .answer) (world (o .after .target) (replicate (length mem) 0) (o .after .regs)) (o .reply))
+
 -- calls every record unfit
 unfoldable pub alwaysUnfit : Acts
 alwaysUnfit t mem e = let o = stepOf house t mem e in outcome notFit Nothing (world t mem (o .after .regs)) []
@@ -208,20 +214,6 @@ RealAfter f es =
     g .mem ≡ realBy house workedSetup (g .book)
 
 -- ---- the table
-
--- the worked setup with eight bytes protected: 4,112 to 4,119
-abbrev pub guardedSetup : Setup
-guardedSetup = record {
-  base = workedSetup .base;
-  size = workedSetup .size;
-  from = 4_112;
-  to = 4_120;
-  pids = workedSetup .pids;
-  addresses = workedSetup .addresses;
-  count = workedSetup .count;
-  mem = workedSetup .mem;
-  regs = workedSetup .regs;
-}
 
 pub data StubRow : Type 0 where
   -- a part of the claim is false of the last step
@@ -326,7 +318,8 @@ stubRows r =
     part textPart (readsReal 6) case4 (texting "0x0 i 0x1008 0x0") ∷
     memory storesNoWord (case4 ++ (texting "0x0 D 0x1008 0x1" ∷ [])) ∷
     part fitPart alwaysUnfit [] case1 ∷
-    -- 02, Five: one that lets a Tmput, a b or a text write through
+    -- 02, Five: one that lets a Tmput, a b or a text write through, and one that changes a protected byte at a restart
     guarded protectedPart protectsNothing [] (asking 0x04_0000100e_03_aabbcc00) ∷
     guarded protectedPart protectsNothing (asking 0x10_00000003_6e000000_00 ∷ []) (asking 0x10_00001010_62000000_00) ∷
-    guarded protectedPart protectsNothing [] (texting "0x0 D 0x1014 0x1") ∷ []
+    guarded protectedPart protectsNothing [] (texting "0x0 D 0x1014 0x1") ∷
+    guarded protectedPart clearsAtRestart [] restartNow ∷ []

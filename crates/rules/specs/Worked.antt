@@ -45,9 +45,27 @@ workedSetup = record {
   regs = replicate (2 * blockSize) 0;
 }
 
--- what calls show after the worked setup, where f is what steps do
-unfoldable pub after : (Target → List ℕ → Step → Outcome) → List Call → List (List ℕ)
-after f cs = shownBy f (setupBy workedSetup .after) cs
+-- 02, Five: the same with the bytes from one address to before another protected
+abbrev pub withStretch : ℕ → ℕ → Setup
+withStretch from to = record {
+  base = workedSetup .base;
+  size = workedSetup .size;
+  from = from;
+  to = to;
+  pids = workedSetup .pids;
+  addresses = workedSetup .addresses;
+  count = workedSetup .count;
+  mem = workedSetup .mem;
+  regs = workedSetup .regs;
+}
+
+-- eight bytes, 4,112 to 4,119
+abbrev pub guardedSetup : Setup
+guardedSetup = withStretch 4_112 4_120
+
+-- what calls show after a setup, where f is what steps do
+unfoldable pub after : Setup → (Target → List ℕ → Step → Outcome) → List Call → List (List ℕ)
+after s f cs = shownBy f (setupBy s .after) cs
 
 -- ---- calls, and what they show
 
@@ -77,13 +95,20 @@ told error s = 0 ∷ (padded textMost (codes s) ++ (error ∷ length (codes s) �
 abbrev pub reply : ℕ → List ℕ
 reply b = 0 ∷ highFirst 10 b
 
+-- number 0 and Rerr inval, unsup
+abbrev pub inval : List ℕ
+inval = reply 0x01_696e76616c_00000000
+
+abbrev pub unsup : List ℕ
+unsup = reply 0x01_756e737570_00000000
+
 -- number 0 and Rcondbreak
 abbrev pub taken : List ℕ
 taken = reply 0x11_000000000000000000
 
 -- ---- the table
 
--- calls after the worked setup, and what they show
+-- calls after a setup, and what they show
 pub record WorkedRow : Type 0 where
   pub calls : List Call
   pub shows : List (List ℕ)
@@ -161,3 +186,42 @@ workedRows =
     (told 1 "0x5 c 0xffffffff 0x16" ∷ told 1 "0x5 i 0xffffffff 0x3" ∷ told 1 "0x0 i 0xffffffff 0x16" ∷
     told 1 "0x0 D 0xffffffff 0xe" ∷ told 1 "0x0 r 0xffffffff 0x16" ∷ told 1 "0x0 R 0xffffffff 0x16" ∷
     told 1 "0x0 r 0xffffffff 0x3" ∷ reply 0x07_3830303031303030_00 ∷ told 1 "0x0 R 0xffffffff 0x10" ∷ []) ∷ []
+
+-- 02, Five, after the setup that protects 4,112 to 4,119
+unfoldable pub guardedRows : List WorkedRow
+guardedRows =
+    -- a write that ends just before and one that begins just behind; one that reaches in by a byte at either end; four
+    -- bytes inside; none at all
+    row
+    (ask 0x04_0000100c_04_01020304 ∷ ask 0x04_00001018_01_05000000 ∷ ask 0x04_0000100d_04_06070809 ∷
+    ask 0x04_00001017_02_0a0b0000 ∷ ask 0x04_00001012_04_0c0d0e0f ∷ ask 0x04_00001012_00_00000000 ∷ look 12 13 ∷ [])
+    (reply 0x05_000000000000000000 ∷ reply 0x05_000000000000000000 ∷ unsup ∷ unsup ∷ unsup ∷
+    reply 0x05_000000000000000000 ∷
+    (1 ∷ 2 ∷ 3 ∷ 4 ∷ 16 ∷ 17 ∷ 18 ∷ 19 ∷ 20 ∷ 21 ∷ 22 ∷ 23 ∷ 5 ∷ []) ∷ []) ∷
+    -- the count, unused bytes and the address come before it; reads are free
+    row
+    (ask 0x04_00001010_05_00000000 ∷ ask 0x04_00001010_01_00010000 ∷ ask 0x04_0000103e_04_00000000 ∷
+    ask 0x02_00001010_08_00000000 ∷ texts "0x0 i 0x1010 0x0" ∷ [])
+    (reply 0x01_636f756e74_00000000 ∷ inval ∷ inval ∷ reply 0x03_1011121314151617_00 ∷
+    told 0 "0x0 i 0x0 0x13121110" ∷ []) ∷
+    -- b: nothing in hand, an odd site; then at it, with a wrong depth too; just before and just behind
+    row
+    (ask 0x10_00001010_62000000_00 ∷ ask 0x10_00000001_6e000000_00 ∷ ask 0x10_00001011_62000000_00 ∷
+    ask 0x10_00000001_6e000000_00 ∷ ask 0x10_00001016_62000000_00 ∷
+    ask 0x10_00000001_6e000000_00 ∷ ask 0x10_00000007_70000000_00 ∷ ask 0x10_00001010_62000000_00 ∷
+    ask 0x10_00000001_6e000000_00 ∷ ask 0x10_0000100e_62000000_00 ∷
+    ask 0x10_00000002_6e000000_00 ∷ ask 0x10_00001018_62000000_00 ∷ look 14 12 ∷ [])
+    (inval ∷ taken ∷ inval ∷ taken ∷ unsup ∷ taken ∷ taken ∷ unsup ∷ taken ∷ taken ∷ taken ∷ taken ∷
+    (0x02 ∷ 0x90 ∷ 16 ∷ 17 ∷ 18 ∷ 19 ∷ 20 ∷ 21 ∷ 22 ∷ 23 ∷ 0x02 ∷ 0x90 ∷ []) ∷ []) ∷
+    -- text: alignment and the window come before it
+    row
+    (texts "0x0 I 0x1011 0x0" ∷ texts "0x0 D 0x1040 0x0" ∷ texts "0x0 I 0x1010 0x1" ∷ texts "0x0 D 0x1014 0x1" ∷
+    texts "0x0 D 0x100c 0x1" ∷ texts "0x0 D 0x1018 0x1" ∷ [])
+    (told 1 "0x0 I 0xffffffff 0x16" ∷ told 1 "0x0 D 0xffffffff 0xe" ∷ told 1 "0x0 I 0xffffffff 0xd" ∷
+    told 1 "0x0 D 0xffffffff 0xd" ∷ told 0 "0x0 D 0x0 0xf0e0d0c" ∷ told 0 "0x0 D 0x0 0x1b1a1918" ∷ []) ∷ []
+
+-- setups with a stretch, from and to, and their numbers: in the worked window, whose end is 4,160
+unfoldable pub stretchRows : List (ℕ × (ℕ × ℕ))
+stretchRows =
+    (4_096, (4_096, 0)) ∷ (4_160, (4_160, 0)) ∷ (4_096, (4_160, 0)) ∷ (4_156, (4_160, 0)) ∷ (4_092, (4_096, 1)) ∷
+    (4_156, (4_164, 1)) ∷ (4_112, (4_108, 1)) ∷ (4_113, (4_116, 1)) ∷ (4_112, (4_118, 1)) ∷ (0, (0, 1)) ∷ []
