@@ -70,7 +70,7 @@ gotFrom h Nowhere w addr n = error Inval w
 unfoldable pub mget : Head → World → ℕ → ℕ → Outcome
 mget h w addr n =
     let t = w .target in
-    cond (eqb n 0) (replied (Rmget (data9Of [])) w) 
+    cond (eqb n 0) (replied (Rmget (data9Of [])) w)
     (gotFrom h (namedBy Read (t .protected) (t .base) (t .size) addr n) w addr n)
 
 -- ---- Tmput: "writes n bytes; a byte under a trap goes to the entry's plain bytes and the trap stays"

@@ -37,7 +37,7 @@ fn run(Arguments { seed, count, stats }: &Arguments) -> io::Result<bool> {
     eprint!("{}", table(&sections));
     let lacking = lacking(&sections);
     for name in &lacking {
-        eprintln!("never reached: {name}");
+        eprintln!("{name}");
     }
     Ok(*count < ALL_REACHED || lacking.is_empty())
 }

@@ -78,9 +78,12 @@ impl Section {
                 let place = format!("column {}", i + 1);
                 let column = self.columns.get(i).unwrap_or(&place);
                 match cell {
-                    Cell::Must(0) => lacking.push(format!("{}: {name}: {column}", self.title)),
+                    Cell::Must(0) => {
+                        lacking.push(format!("never reached: {}: {name}: {column}", self.title));
+                    }
                     Cell::Never(1..) => {
-                        lacking.push(format!("not {}: {name}: {column}", self.title));
+                        lacking
+                            .push(format!("must not be reached: {}: {name}: {column}", self.title));
                     }
                     _ => {}
                 }
