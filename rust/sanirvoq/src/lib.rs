@@ -23,7 +23,7 @@
 //! let process = |pid, address| Process { pid, address };
 //! let processes = [process(5, 0x8000_1000), process(7, 0x8000_2000)];
 //! let setup = Setup::new(0x1000, 64, &processes).protecting(0x1038..0x103c);
-//! let mut stub = Stub::setup(&setup, &mut memory, &mut registers)?;
+//! let mut stub = Stub::setup(&setup, &memory, &registers)?;
 //!
 //! let request = [2, 0, 0, 0x10, 0x04, 4, 0, 0, 0, 0];
 //! let mut reply = [0; MESSAGE];
@@ -37,11 +37,9 @@
 //! Buffers that overlap do not compile:
 //!
 //! ```compile_fail
-//! # use sanirvoq::{Process, Setup, Stub};
-//! # let processes = [Process { pid: 5, address: 0 }];
-//! let mut memory = [0; 136];
-//! let setup = Setup::new(0x1000, 136, &processes);
-//! let stub = Stub::setup(&setup, &mut memory, &mut memory);
+//! # let (mut stub, mut memory) = (sanirvoq::Stub::default(), [0; 136]);
+//! # let (request, mut reply) = ([0; 10], [0; 10]);
+//! let done = stub.request(&mut memory, &mut memory, &request, &mut reply);
 //! ```
 
 #![no_std]
@@ -54,6 +52,7 @@
 mod frame;
 mod image;
 mod message;
+mod patch;
 mod refusal;
 mod stub;
 mod text;
@@ -62,8 +61,9 @@ mod text_step;
 pub use frame::{frame_reply, Answer, Answers, Frames, NotFramed};
 pub use image::{differences, NotCompared};
 pub use message::{Message, Reason};
+pub use patch::{NotPlanned, Offered};
 pub use refusal::Refusal;
-pub use sanirvoq_sys::ffi::{FrameReader, Run};
+pub use sanirvoq_sys::ffi::{FrameReader, Run, Write as PatchWrite};
 pub use sanirvoq_sys::{call, ffi, Element, RecordWords, BLOCK, MESSAGE, WORDS};
 pub use stub::{Process, Served, Setup, Stub, Verdict};
 pub use text::{NotText, TextPacket};
@@ -76,5 +76,7 @@ pub const IMAGE: usize = 65_536;
 pub const TEXT: usize = 34;
 /// The bytes of the shortest buffer that [`Frames`] takes: the longest body and its checksum.
 pub const FRAME_BUFFER: usize = 534;
+/// The writes of the longest offer that [`Stub::check_patch`] takes, and of the longest plan.
+pub const PATCH_WRITES: usize = 16_384;
 /// The bytes of a framed reply.
 pub const FRAMED_REPLY: usize = 26;

@@ -89,13 +89,9 @@ pub struct Stub {
 }
 
 impl Stub {
-    /// The stub of a setup. Changes neither buffer. Refused with [`Refusal::Setup`] or
-    /// [`Refusal::Size`].
-    pub fn setup(
-        setup: &Setup<'_>,
-        memory: &mut [u8],
-        registers: &mut [u8],
-    ) -> Result<Self, Refusal> {
+    /// The stub of a setup over the buffers that every step will be lent. Refused with
+    /// [`Refusal::Setup`] or [`Refusal::Size`].
+    pub fn setup(setup: &Setup<'_>, memory: &[u8], registers: &[u8]) -> Result<Self, Refusal> {
         let mut stub = Self::default();
         stub.setup_in_place(setup, memory, registers)?;
         Ok(stub)
@@ -107,21 +103,18 @@ impl Stub {
     pub fn setup_in_place(
         &mut self,
         setup: &Setup<'_>,
-        memory: &mut [u8],
-        registers: &mut [u8],
+        memory: &[u8],
+        registers: &[u8],
     ) -> Result<(), Refusal> {
         let &Setup { base, size, ref protected, processes } = setup;
         // More than the record has room for is for the archive to refuse, by the count.
         let count = u32::try_from(processes.len()).unwrap_or(u32::MAX);
-        self.record.target = Target { base, size, count, ..Target::default() };
-        for (listed, &Process { pid, address }) in
-            self.record.target.processes.iter_mut().zip(processes)
-        {
+        let target = &mut self.record.target;
+        *target = Target { base, size, count, ..Target::default() };
+        for (listed, &Process { pid, address }) in target.processes.iter_mut().zip(processes) {
             (listed.pid, listed.address) = (pid, address);
         }
-        let (from, to) = (protected.start, protected.end);
-        let lent = Lent { from, to, ..self.lent(memory, registers) };
-        answer(lent.call(Kind::Setup)).map(drop)
+        answer(call::setup(target, memory, registers, protected.start, protected.end)).map(drop)
     }
 
     /// Serves a request of ten bytes with ten reply bytes, which may be Rerr, and says what else is
@@ -200,7 +193,7 @@ impl Stub {
     /// let (mut memory, mut registers) = ([4, 5, 6, 7], [0; BLOCK]);
     /// let processes = [Process { pid: 5, address: 0 }];
     /// let setup = Setup::new(0x1004, 4, &processes);
-    /// let mut stub = Stub::setup(&setup, &mut memory, &mut registers)?;
+    /// let mut stub = Stub::setup(&setup, &memory, &registers)?;
     /// let mut buffer = [0; TEXT];
     /// let served = stub.text(&mut memory, &mut registers, b"0x0 i 0x1004 0x0", &mut buffer)?;
     /// assert_eq!(served.text(), b"0x0 i 0x0 0x7060504");
@@ -231,7 +224,7 @@ impl Stub {
     /// let (mut memory, mut registers) = ([4, 5, 6, 7], [0; BLOCK]);
     /// let processes = [Process { pid: 5, address: 0 }];
     /// let setup = Setup::new(0x1004, 4, &processes);
-    /// let mut stub = Stub::setup(&setup, &mut memory, &mut registers)?;
+    /// let mut stub = Stub::setup(&setup, &memory, &registers)?;
     /// let write = TextRequest::WriteWord { space: Space::Data, address: 0x1004, data: 1 };
     /// assert_eq!(stub.text_request(&mut memory, &mut registers, write)?, Ok(0x0706_0504));
     /// assert_eq!(memory, [1, 0, 0, 0]);

@@ -203,13 +203,13 @@ fn any_bytes_are_a_record() {
 /// A setup over a record that was in use, with buffers of these sizes, and what it leaves of the
 /// record besides the places, which it leaves as they are.
 fn setup(setup: &Setup<'_>, memory: usize, registers: usize) -> (Result<(), Refusal>, Target) {
-    let (mut memory, mut registers) = (vec![0x11; memory], vec![0x22; registers]);
+    let (memory, registers) = (vec![0x11; memory], vec![0x22; registers]);
     let mut stub = used().stub;
     let places = stub.raw().places;
-    let done = stub.setup_in_place(setup, &mut memory, &mut registers);
+    let done = stub.setup_in_place(setup, &memory, &registers);
     assert!(memory.iter().all(|&byte| byte == 0x11) && registers.iter().all(|&byte| byte == 0x22));
     assert_eq!(stub.raw().places, places);
-    let made = Stub::setup(setup, &mut memory, &mut registers);
+    let made = Stub::setup(setup, &memory, &registers);
     assert_eq!(made.map(|made| made.raw().target), done.map(|()| stub.raw().target));
     (done, stub.raw().target)
 }

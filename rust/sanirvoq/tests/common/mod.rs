@@ -23,9 +23,9 @@ impl Session {
 
     /// A setup of two processes over 64 bytes, byte i is i, which must be accepted.
     pub fn of(setup: &Setup<'_>) -> Self {
-        let mut memory: Vec<u8> = (0..64).collect();
-        let mut registers = vec![0; TWO.len() * BLOCK];
-        let stub = Stub::setup(setup, &mut memory, &mut registers).unwrap();
+        let memory: Vec<u8> = (0..64).collect();
+        let registers = vec![0; TWO.len() * BLOCK];
+        let stub = Stub::setup(setup, &memory, &registers).unwrap();
         Self { stub, memory, registers }
     }
 
