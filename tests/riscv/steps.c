@@ -626,7 +626,8 @@ static int reached_all(void) {
     for (int i = 0; i <= SANIRVOQ_ERR_FRAME; i++) {
         all = all && numbers[i] > 0;
     }
-    return all && numbers[16] > 0 && numbers[17] > 0 && numbers[21] > 0 && verdicts[SANIRVOQ_VERDICT_ACCEPTED] > 0 &&
+    return all && numbers[SANIRVOQ_ERR_PATCH] > 0 && numbers[SANIRVOQ_ERR_PLAN_LIST] > 0 &&
+           numbers[SANIRVOQ_ERR_PROTECTED] > 0 && verdicts[SANIRVOQ_VERDICT_ACCEPTED] > 0 &&
            verdicts[SANIRVOQ_VERDICT_BROKEN_BOUND] > 0 && verdicts[SANIRVOQ_VERDICT_IMAGES_DIFFER] > 0;
 }
 
@@ -655,7 +656,7 @@ int test(void) {
         report(names[i], calls[i]);
     }
     print("; numbers");
-    for (int i = 0; i < 22; i++) {
+    for (int i = 0; i <= SANIRVOQ_ERR_PROTECTED; i++) {
         print(" ");
         print_number(numbers[i]);
     }
