@@ -1,7 +1,7 @@
 """Lines of text on a line that carries frames too.
 
-A text stands between two packets, in printable ASCII, and ends with a line feed. Every byte of a packet has its high bit
-set or is 1d or 1e, so no packet holds a line, and a reader of frames skips the text.
+A text stands between two packets, in printable ASCII, and ends with a line feed. Every byte of a packet has its high
+bit set or is 1d or 1e, so no packet holds a line, and a reader of frames skips the text.
 """
 
 from __future__ import annotations
