@@ -98,8 +98,8 @@ windowWritten h w addr bytes =
     world (withEntries t (withPlains (t .table .entries) (plainAfter (width h) (sites t) (plains t) at bytes)))
     (memAfter (width h) (sites t) (w .mem) at bytes) (w .regs)
 
--- "A write that touches 0 to 3 (register zero) is inval, before pid". 02, Five: "a Tmput touching a protected byte .. is
--- unsup, right after the address"
+-- "A write that touches 0 to 3 (register zero) is inval, before pid". 02, Five: "a Tmput touching a protected byte ..
+-- is unsup, right after the address"
 unfoldable pub putTo : Head → Place → World → ℕ → List ℕ → Outcome
 putTo h Registers w addr bytes =
     cond (leb addr 3) (error Inval w)

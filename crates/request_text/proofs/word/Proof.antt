@@ -11,7 +11,8 @@ use Rattle.step_effect.specs.Change.{stored}
 use Rattle.target.specs.View.{elementsOf}
 use Rattle.target_fit.proofs.Slots.{roomy}
 use Rattle.request_memory.proofs.Laws.{wrote-is}
-use Rattle.request_text.proofs.Laws.{word-unaligned, word-outside, word-found, fetched-inside, writable-no, writable-yes}
+use Rattle.request_text.proofs.Laws.{word-unaligned, word-outside, word-found, fetched-inside, writable-no}
+use Rattle.request_text.proofs.Laws.{writable-yes}
 use Rattle.request_text.proofs.word.Statement.{statement}
 use Rattle.request_text.proofs.word.Tie as tie
 
