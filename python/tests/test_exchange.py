@@ -16,7 +16,7 @@ from sanirvoq.noise import Noise
 from sanirvoq.practice import Kernel, practice_setup, service
 from sanirvoq.repeat import is_repeatable
 
-QUICK = Settings(seconds=0.05, tries=8)
+QUICK = Settings(seconds=0.05, tries=20)
 
 
 class BadLine:
@@ -162,7 +162,7 @@ def test_breakpoints_over_a_noisy_line() -> None:
 
 def test_answers_that_are_later_than_the_patience() -> None:
     """An answer to an earlier try of the same request counts, so a slow line is slow and no more."""
-    pair = practised(settings=Settings(0.03, 6), noise=Noise(delay=0.05, seed=5))
+    pair = practised(settings=Settings(0.03, 60), noise=Noise(delay=0.05, seed=5))
     assert pair.head.read(0x1000, 90) == PLAIN[:90]
     assert pair.head.exchange.counts.again > 0
 

@@ -11,7 +11,7 @@ from pathlib import Path
 from .. import __version__
 from ..errors import BenchError, CallError, CommandError, FileError, LibraryError
 from .bench import Bench, Options
-from .output import Output, is_terminal
+from .output import Output, demand_terminal
 from .practice import run_practice
 from .prompt import Prompt
 from .table import COMMANDS, perform
@@ -61,11 +61,6 @@ def joined(words: list[str]) -> str:
     return words[0] if len(words) == 1 else " ".join(shlex.quote(word) if " " in word else word for word in words)
 
 
-def demand_terminal() -> None:
-    if not is_terminal():
-        raise CommandError("a prompt needs a terminal: give a command, or `run FILE` (`run -` for standard input)")
-
-
 def greet(bench: Bench) -> None:
     """The first contact: where the window lies, or what is wrong with the line."""
     try:
@@ -80,7 +75,6 @@ def greet(bench: Bench) -> None:
 
 
 def at_prompt(options: Options, output: Output, name: str) -> int:
-    demand_terminal()
     bench = Bench(options, output)
     prompt = Prompt(bench, name)
     bench.attend(prompt.confirm)
@@ -110,6 +104,7 @@ def entry(arguments: list[str] | None = None) -> int:
             return run_practice(given.command[1:], options, output, at_prompt)
         if given.command:
             return one_command(options, output, joined(given.command))
+        demand_terminal()
         return at_prompt(options, output, "head")
     except BenchError as error:
         output.fail(" ".join(given.command), error)

@@ -105,5 +105,6 @@ class Output:
             yield lambda done, of: bar.update(task, completed=done, total=of)
 
 
-def is_terminal() -> bool:
-    return sys.stdin.isatty() and sys.stdout.isatty()
+def demand_terminal() -> None:
+    if not (sys.stdin.isatty() and sys.stdout.isatty()):
+        raise CommandError("a prompt needs a terminal: give a command, or `run FILE` (`run -` for standard input)")

@@ -11,7 +11,7 @@ from ..noise import Noise
 from ..practice import Kernel, practice_setup, service, worked_setup
 from ..serving import listen, serve_pty, serve_tcp
 from .bench import Options
-from .output import Output
+from .output import Output, demand_terminal
 
 HEADS = ("small", "worked", "program", "qemu")
 PRACTISE = Callable[[Options, Output, str], int]
@@ -60,6 +60,7 @@ def run_practice(words: list[str], options: Options, output: Output, practise: P
     options = dataclasses.replace(options, noise=noise if given.noise or given.delay else None)
     if given.serve:
         return serve(given.which, given.serve, options, output)
+    demand_terminal()
     if not output.as_json:
         greet(given.which, output)
     if given.which == "qemu":
