@@ -382,6 +382,37 @@ static void compare(const struct kernel *kernel) {
     }
 }
 
+/* The fewest writes to a wanted image, checked and then sent. */
+static void plan_a_patch(struct kernel *kernel) {
+    uint8_t wanted[SIZE], room[SIZE];
+    struct sanirvoq_write list[4];
+    memcpy(wanted, kernel->lent.memory, SIZE);
+    for (uint8_t i = 0; i < 6; i++) {
+        wanted[0x20 + i] = (uint8_t)(0xf0 + i);
+    }
+    printf("She plans the fewest writes for six new bytes at 0x1020. They are accepted, and sent.\n");
+    struct sanirvoq_planning planning = sanirvoq_plan(&kernel->record, kernel->lent, wanted, SIZE, room, SIZE, list, 4);
+    expect_ok("a plan", planning.number);
+    const struct sanirvoq_verdict verdict =
+        sanirvoq_check(&kernel->record, kernel->lent, list, planning.writes, wanted, SIZE, room, SIZE);
+    expect_ok("a verdict", verdict.number);
+    print_label("plan");
+    printf("%u writes, %s\n", (unsigned)planning.writes,
+           verdict.verdict == SANIRVOQ_VERDICT_ACCEPTED ? "accepted" : "not accepted");
+    for (uint32_t i = 0; i < planning.writes; i++) {
+        struct sanirvoq_fields fields = {
+            .kind = SANIRVOQ_MSG_TMPUT, .value = list[i].address, .n = (uint8_t)list[i].count};
+        memcpy(fields.bytes, list[i].bytes, sizeof list[i].bytes);
+        expect_ok("a planned write", send_request(kernel, "Tmput of the plan", fields));
+    }
+    show_memory_at(kernel, 0x1020);
+    printf("For another power limit there is no plan.\n");
+    wanted[LIMIT - BASE] = 0xff;
+    planning = sanirvoq_plan(&kernel->record, kernel->lent, wanted, SIZE, room, SIZE, list, 4);
+    print_label("plan");
+    printf("refused with number %u at 0x%x\n", planning.number, (unsigned)planning.address);
+}
+
 /* A trap is overwritten from outside: number 3, and the record is given up. */
 static void lose_a_trap(struct kernel *kernel) {
     printf("Breakpoints 1 and 2 stand at 0x1010 and 0x1014. A loader overwrites the first trap.\n");
@@ -421,6 +452,7 @@ int main(void) {
     speak_in_frames(&kernel);
     restart(&kernel);
     compare(&kernel);
+    plan_a_patch(&kernel);
     lose_a_trap(&kernel);
     const int kept = memcmp(kernel.lent.memory + (SITE - BASE), patched, SHOWN) == 0;
     take_down(&kernel);

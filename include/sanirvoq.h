@@ -27,8 +27,9 @@
  * and a call is not made from an interrupt that came during another call with the same record. Calls with different
  * records and buffers may run at once.
  *
- * Stack. Have 2,048 bytes for a call on x86-64 and 4,096 on RISC-V: a step takes less, as measured
- * (docs/PERFORMANCE.md has the figures), and the calls that need no record less again. No theorem bounds it.
+ * Stack. Have 4,096 bytes for a call: it takes less on every machine, as measured (docs/PERFORMANCE.md has the
+ * figures). No theorem bounds it. The stack pointer is a multiple of 16 at a call, as the conventions have it; code
+ * written in assembly has to see to that.
  *
  * x86-64. The archive is compiled as for user space. It uses the red zone, the 128 bytes below the stack pointer, so
  * an interrupt that comes during a call must run on another stack (an IST entry), or interrupts are off. It uses the
@@ -60,7 +61,7 @@
 /* The edition of this interface. The minor number rises where a function, a record or the meaning of a number
  * changes. */
 #define SANIRVOQ_VERSION_MAJOR 0
-#define SANIRVOQ_VERSION_MINOR 3
+#define SANIRVOQ_VERSION_MINOR 4
 
 /* On a function whose result must not be dropped. */
 #if defined(__GNUC__)
@@ -102,6 +103,7 @@ enum {
     SANIRVOQ_FRAME_BODY_SIZE = 532,   /* bytes of the longest body of a packet */
     SANIRVOQ_FRAME_BUFFER_SIZE = 534, /* bytes of the shortest body buffer: a body and its checksum */
     SANIRVOQ_FRAME_REPLY_SIZE = 26,   /* bytes of a framed reply */
+    SANIRVOQ_PATCH_WRITES = 16384,    /* writes of the longest offer, and of the longest plan */
     SANIRVOQ_TARGET_SIZE = 176,       /* bytes of struct sanirvoq_target */
     SANIRVOQ_RECORD_SIZE = 1200       /* bytes of struct sanirvoq_record */
 };
@@ -121,8 +123,12 @@ enum sanirvoq_error {
     SANIRVOQ_ERR_RUN_LIST = 9,     /* a list that lacks room for the runs of differing bytes */
     SANIRVOQ_ERR_NO_PACKET = 10,   /* a letter that no text packet has, or bytes that are no packet's text */
     SANIRVOQ_ERR_TEXT_BUFFER = 11, /* a buffer for a text that is shorter than SANIRVOQ_TEXT_SIZE */
-    SANIRVOQ_ERR_FRAME = 12        /* a body buffer under SANIRVOQ_FRAME_BUFFER_SIZE bytes, a buffer for a framed reply
+    SANIRVOQ_ERR_FRAME = 12,       /* a body buffer under SANIRVOQ_FRAME_BUFFER_SIZE bytes, a buffer for a framed reply
                                     * not of SANIRVOQ_FRAME_REPLY_SIZE, or a sequence over 255 */
+    SANIRVOQ_ERR_PATCH = 16,       /* a wanted image that is not of the window's size, or an offer of over
+                                    * SANIRVOQ_PATCH_WRITES */
+    SANIRVOQ_ERR_PLAN_LIST = 17,   /* a list that lacks room for the writes of a plan */
+    SANIRVOQ_ERR_PROTECTED = 21    /* a wanted image that differs in a protected byte: there is no plan */
 };
 
 /* ---- the record ---- */
@@ -460,6 +466,77 @@ SANIRVOQ_CHECKED static inline uint32_t sanirvoq_put_back(const struct sanirvoq_
         }
     }
     return left_out;
+}
+
+/* ---- patches: offered writes checked, and the fewest writes planned, from the window to a wanted image ----
+ *
+ * Both calls are over the program's own bytes, as if there were no trap, and only read the record, the window and the
+ * register area; nothing is written until the host sends the writes as requests. The window is laid out in room, which
+ * has its size, and what room holds afterwards is of no account. */
+
+/* A write, as a Tmput makes it. */
+struct sanirvoq_write {
+    uint32_t address;
+    uint32_t count;   /* 1 to 4 */
+    uint8_t bytes[4]; /* the first count of them; the planner's others are 0, the checker ignores them */
+};
+
+enum sanirvoq_verdict_kind {
+    SANIRVOQ_VERDICT_ACCEPTED = 0,     /* all writes in order give the wanted image */
+    SANIRVOQ_VERDICT_BROKEN_BOUND = 1, /* a write has another count, leaves the window or touches a protected byte */
+    SANIRVOQ_VERDICT_IMAGES_DIFFER = 2 /* every write is allowed, and they give another image */
+};
+
+/* What checking gives. */
+struct sanirvoq_verdict {
+    uint8_t number;
+    uint8_t verdict; /* a sanirvoq_verdict_kind */
+    uint32_t index;  /* of a broken bound: the first write that breaks one; else 0 */
+};
+
+/* What planning gives. */
+struct sanirvoq_planning {
+    uint8_t number;
+    uint32_t address; /* with number 21: of the lowest protected byte that differs; else 0 */
+    uint32_t writes;  /* with number 0: how many writes the plan has; else 0 */
+};
+
+SANIRVOQ_ASSERT(sizeof(struct sanirvoq_write) == 12, "the size of a write");
+SANIRVOQ_ASSERT(sizeof(struct sanirvoq_verdict) == 8, "the size of a verdict");
+SANIRVOQ_ASSERT(sizeof(struct sanirvoq_planning) == 12, "the size of what planning gives");
+
+/* As the archive exports them; offer_length and list_length count writes. */
+SANIRVOQ_CHECKED struct sanirvoq_verdict
+sanirvoq_patch_check(const struct sanirvoq_target *target, const uint32_t *places, const uint8_t *memory,
+                     sanirvoq_length memory_length, const uint8_t *registers, sanirvoq_length registers_length,
+                     const struct sanirvoq_write *offer, sanirvoq_length offer_length, const uint8_t *wanted,
+                     sanirvoq_length wanted_length, uint8_t *room, sanirvoq_length room_length);
+SANIRVOQ_CHECKED struct sanirvoq_planning
+sanirvoq_patch_plan(const struct sanirvoq_target *target, const uint32_t *places, const uint8_t *memory,
+                    sanirvoq_length memory_length, const uint8_t *registers, sanirvoq_length registers_length,
+                    const uint8_t *wanted, sanirvoq_length wanted_length, uint8_t *room, sanirvoq_length room_length,
+                    struct sanirvoq_write *list, sanirvoq_length list_length);
+
+/* Whether an offer of writes, in their order, turns the window into a wanted image of its size. number is 0 with a
+ * verdict, or, tested in this order, 2 (memory, registers or room), 3 or 16. */
+SANIRVOQ_CHECKED static inline struct sanirvoq_verdict
+sanirvoq_check(const struct sanirvoq_record *record, struct sanirvoq_lent lent, const struct sanirvoq_write *offer,
+               sanirvoq_length offer_length, const uint8_t *wanted, sanirvoq_length wanted_length, uint8_t *room,
+               sanirvoq_length room_length) {
+    return sanirvoq_patch_check(&record->target, record->places, lent.memory, lent.memory_length, lent.registers,
+                                lent.registers_length, offer, offer_length, wanted, wanted_length, room, room_length);
+}
+
+/* Plans the writes from the window to a wanted image of its size, at the front of the list: no accepted offer is
+ * shorter. number is 0, or, tested in this order, 2 (memory, registers or room), 3, 16, 21 where a protected byte
+ * differs, or 17 where the list is shorter than the plan. Other places of the list stay, and where the number is not 0
+ * all do. */
+SANIRVOQ_CHECKED static inline struct sanirvoq_planning
+sanirvoq_plan(const struct sanirvoq_record *record, struct sanirvoq_lent lent, const uint8_t *wanted,
+              sanirvoq_length wanted_length, uint8_t *room, sanirvoq_length room_length, struct sanirvoq_write *list,
+              sanirvoq_length list_length) {
+    return sanirvoq_patch_plan(&record->target, record->places, lent.memory, lent.memory_length, lent.registers,
+                               lent.registers_length, wanted, wanted_length, room, room_length, list, list_length);
 }
 
 /* ---- messages: the ten bytes of a request or a reply, for the host's side too; need no record ---- */

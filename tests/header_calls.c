@@ -390,6 +390,100 @@ static void put_back(void) {
     free_kernel(kernel);
 }
 
+/* ---- patches ---- */
+
+static void patches(void) {
+    struct kernel kernel = made();
+    struct sanirvoq_setup setup = two;
+    setup.protected_from = BASE + 12;
+    setup.protected_to = BASE + 16;
+    expect(sanirvoq_setup(kernel.record, kernel.lent, &setup) == SANIRVOQ_OK, "a setup with a stretch");
+    plant(&kernel, 1, BASE + 8);
+    const struct sanirvoq_record before = *kernel.record;
+    const struct sanirvoq_target *target = &before.target;
+    uint8_t *wanted = lend(SIZE, 0), *room = lend(SIZE, FILL);
+    struct sanirvoq_write list[2], other[2], third = {BASE, 1, {0, 0, 0, 0}};
+    for (uint8_t i = 0; i < SIZE; i++) {
+        wanted[i] = i;
+    }
+    memset(list, FILL, sizeof list);
+    /* No write is needed: what lies under the trap is as it was. */
+    struct sanirvoq_planning planning = sanirvoq_plan(kernel.record, kernel.lent, wanted, SIZE, room, SIZE, list, 2);
+    expect(planning.number == SANIRVOQ_OK && planning.writes == 0 && list[0].count != 0, "nothing to write");
+    struct sanirvoq_verdict verdict = sanirvoq_check(kernel.record, kernel.lent, list, 0, wanted, SIZE, room, SIZE);
+    expect(verdict.number == SANIRVOQ_OK && verdict.verdict == SANIRVOQ_VERDICT_ACCEPTED, "an empty offer");
+
+    /* Two: four bytes from byte 5 on, and byte 10, cut short before the stretch. */
+    wanted[5] = wanted[10] = 0xaa;
+    planning = sanirvoq_plan(kernel.record, kernel.lent, wanted, SIZE, room, SIZE, list, 2);
+    expect(planning.number == SANIRVOQ_OK && planning.writes == 2 && planning.address == 0, "two writes");
+    expect(list[0].address == BASE + 5 && list[0].count == 4 && memcmp(list[0].bytes, "\xaa\6\7\10", 4) == 0,
+           "a write");
+    expect(list[1].address == BASE + 10 && list[1].count == 2 && memcmp(list[1].bytes, "\xaa\13\0\0", 4) == 0,
+           "a short one");
+    verdict = sanirvoq_check(kernel.record, kernel.lent, list, 2, wanted, SIZE, room, SIZE);
+    expect(verdict.number == SANIRVOQ_OK && verdict.verdict == SANIRVOQ_VERDICT_ACCEPTED, "the plan is accepted");
+    verdict = sanirvoq_check(kernel.record, kernel.lent, list, 1, wanted, SIZE, room, SIZE);
+    expect(verdict.verdict == SANIRVOQ_VERDICT_IMAGES_DIFFER && verdict.index == 0, "half of it");
+    memcpy(other, list, sizeof list);
+    other[1].count = 3;
+    verdict = sanirvoq_check(kernel.record, kernel.lent, other, 2, wanted, SIZE, room, SIZE);
+    expect(verdict.verdict == SANIRVOQ_VERDICT_BROKEN_BOUND && verdict.index == 1, "a write to a protected byte");
+    planning = sanirvoq_plan(kernel.record, kernel.lent, wanted, SIZE, room, SIZE, &third, 1);
+    expect(planning.number == SANIRVOQ_ERR_PLAN_LIST && third.address == BASE, "a list of one");
+    planning = sanirvoq_patch_plan(target, before.places, kernel.lent.memory, SIZE, kernel.lent.registers, AREA, wanted,
+                                   SIZE, room, SIZE, other, 2);
+    expect(planning.number == SANIRVOQ_OK && memcmp(list, other, sizeof list) == 0, "the exported planner");
+    verdict = sanirvoq_patch_check(target, before.places, kernel.lent.memory, SIZE, kernel.lent.registers, AREA, other,
+                                   2, wanted, SIZE, room, SIZE);
+    expect(verdict.number == SANIRVOQ_OK && verdict.verdict == SANIRVOQ_VERDICT_ACCEPTED, "the exported checker");
+
+    wanted[14] = wanted[15] = 0;
+    planning = sanirvoq_plan(kernel.record, kernel.lent, wanted, SIZE, room, SIZE, list, 0);
+    expect(planning.number == SANIRVOQ_ERR_PROTECTED && planning.address == BASE + 14, "a protected byte comes first");
+    planning = sanirvoq_plan(kernel.record, kernel.lent, wanted, SIZE - 1, room, SIZE, list, 2);
+    expect(planning.number == SANIRVOQ_ERR_PATCH, "a short image");
+    verdict = sanirvoq_check(kernel.record, kernel.lent, list, 2, wanted, SIZE - 1, room, SIZE);
+    expect(verdict.number == SANIRVOQ_ERR_PATCH && verdict.verdict == 0, "a short image");
+    planning = sanirvoq_plan(kernel.record, kernel.lent, wanted, SIZE, room, SIZE - 1, list, 2);
+    expect(planning.number == SANIRVOQ_ERR_SIZE, "a small room");
+    verdict = sanirvoq_check(kernel.record, kernel.lent, list, 2, wanted, SIZE, room, SIZE - 1);
+    expect(verdict.number == SANIRVOQ_ERR_SIZE, "a small room");
+    expect(same_record(kernel.record, &before), "the record is as it was");
+    expect(kernel.lent.memory[8] == SANIRVOQ_TRAP_FIRST && kernel.lent.memory[5] == 5, "the window is as it was");
+    kernel.lent.memory[8] = 0;
+    planning = sanirvoq_plan(kernel.record, kernel.lent, wanted, SIZE, room, SIZE, list, 2);
+    expect(planning.number == SANIRVOQ_ERR_UNFIT, "a trap was overwritten");
+    verdict = sanirvoq_check(kernel.record, kernel.lent, list, 2, wanted, SIZE, room, SIZE);
+    expect(verdict.number == SANIRVOQ_ERR_UNFIT, "a trap was overwritten");
+    free(wanted);
+    free(room);
+    free_kernel(kernel);
+}
+
+static void long_offer(void) {
+    struct kernel kernel = set_up();
+    const size_t most = SANIRVOQ_PATCH_WRITES;
+    struct sanirvoq_write *offer = calloc(most + 1, sizeof *offer);
+    uint8_t *wanted = lend(SIZE, 0), *room = lend(SIZE, FILL);
+    if (offer == NULL) {
+        exit(2);
+    }
+    memcpy(wanted, kernel.lent.memory, SIZE);
+    for (size_t i = 0; i <= most; i++) {
+        offer[i].address = BASE;
+        offer[i].count = 1;
+    }
+    struct sanirvoq_verdict verdict = sanirvoq_check(kernel.record, kernel.lent, offer, most, wanted, SIZE, room, SIZE);
+    expect(verdict.number == SANIRVOQ_OK && verdict.verdict == SANIRVOQ_VERDICT_ACCEPTED, "the longest offer");
+    verdict = sanirvoq_check(kernel.record, kernel.lent, offer, most + 1, wanted, SIZE, room, SIZE);
+    expect(verdict.number == SANIRVOQ_ERR_PATCH, "a longer one");
+    free(offer);
+    free(wanted);
+    free(room);
+    free_kernel(kernel);
+}
+
 /* ---- messages ---- */
 
 struct named {
@@ -525,6 +619,8 @@ int main(void) {
     protects();
     places();
     put_back();
+    patches();
+    long_offer();
     texts_of_messages();
     types();
     messages();

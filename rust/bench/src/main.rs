@@ -1,5 +1,5 @@
 //! Prints how fast the proved stub is beside a stub in plain Rust (`rust/bench_stub`), how deep its
-//! stack is, how fast image differences are and how large the code is.
+//! stack is, how fast image differences and patches are and how large the code is.
 //!
 //!     cargo run --release --offline --manifest-path rust/bench/Cargo.toml -- [--quick] [--only TEXT]
 //!
@@ -10,6 +10,7 @@ mod cases;
 mod cmp;
 mod count;
 mod images;
+mod patches;
 mod proved;
 mod reads;
 mod report;
@@ -23,6 +24,7 @@ mod worker;
 
 use cases::{cases, Case};
 use images::{Side, Sides};
+use patches::Patches;
 use reads::Reads;
 use report::Row;
 use std::io::{self, Write};
@@ -122,6 +124,24 @@ fn reads(out: &mut impl Write, mut ways: Vec<Worker>, plan: &Plan) -> io::Result
     writeln!(out)
 }
 
+/// Each call of a patch on both sides, which stand one after the other.
+fn patches(out: &mut impl Write, mut sides: Vec<Worker>, plan: &Plan) -> io::Result<()> {
+    writeln!(
+        out,
+        "Patches over the plain window, eight breakpoints, microseconds a call: the median of {} rounds,\n\
+         and of their ratios.\n",
+        plan.rounds
+    )?;
+    let taken = timing::beside(&mut sides, plan);
+    writeln!(out, "{}", patches::heading())?;
+    for (pair, taken) in sides.chunks(2).zip(taken.chunks(2)) {
+        if let [proved, rust] = taken {
+            writeln!(out, "{}", patches::line(&pair[0].label, proved, rust))?;
+        }
+    }
+    writeln!(out)
+}
+
 fn images(out: &mut impl Write, cases: &[&images::Case], plan: &Plan) -> io::Result<()> {
     writeln!(
         out,
@@ -143,7 +163,7 @@ fn output(error: io::Error) -> String {
 }
 
 fn time(chosen: Chosen, plan: &Plan) -> Result<(), String> {
-    let Chosen { steps, images: pairs, ways } = chosen;
+    let Chosen { steps, images: pairs, ways, sides } = chosen;
     let mut out = io::stdout().lock();
     if !ways.is_empty() {
         reads(&mut out, ways, plan).map_err(output)?;
@@ -156,6 +176,9 @@ fn time(chosen: Chosen, plan: &Plan) -> Result<(), String> {
     }
     if !pairs.is_empty() {
         images(&mut out, &pairs, plan).map_err(output)?;
+    }
+    if !sides.is_empty() {
+        patches(&mut out, sides, plan).map_err(output)?;
     }
     let (table, text) = size::text()?;
     let size = format!("Size of the archive: {text} bytes of text (code and read-only data):");
@@ -177,29 +200,32 @@ fn count(workers: &[Worker], pairs: &[&images::Case]) -> Result<(), String> {
     Ok(())
 }
 
-/// The cases of steps and of images and the ways of reading that are wanted.
+/// The cases of steps and of images, the ways of reading and the sides of patches that are wanted.
 struct Chosen<'a> {
     steps: Vec<Case>,
     images: Vec<&'static images::Case>,
     ways: Vec<Worker<'a>>,
+    sides: Vec<Worker<'a>>,
 }
 
 fn run(Options { mode, only }: Options) -> Result<(), String> {
-    let (reads, mut steps) = (Reads::new(), cases(&WINDOWS));
-    let mut ways = reads.workers();
+    let (reads, patches, mut steps) = (Reads::new(), Patches::new(), cases(&WINDOWS));
+    let (mut ways, mut sides) = (reads.workers(), patches.workers());
     ways.retain(|way| way.label.contains(&only));
     let images: Vec<_> = images::CASES.iter().filter(|case| case.name.contains(&only)).collect();
     let none = format!("no case has '{only}' in its name");
     if let Mode::Time(plan) = mode {
         steps.retain(|case| case.label().contains(&only));
-        return if steps.is_empty() && images.is_empty() && ways.is_empty() {
-            Err(none)
-        } else {
-            time(Chosen { steps, images, ways }, &plan)
-        };
+        // Both sides of a call or none: a line has both.
+        sides.retain(|side| patches::name(&side.label).contains(&only));
+        let nothing = steps.is_empty() && images.is_empty() && ways.is_empty() && sides.is_empty();
+        let chosen = Chosen { steps, images, ways, sides };
+        return if nothing { Err(none) } else { time(chosen, &plan) };
     }
     let mut workers = worker::of_cases(&steps, &only);
+    sides.retain(|side| side.label.contains(&only));
     workers.append(&mut ways);
+    workers.append(&mut sides);
     if workers.is_empty() && images.is_empty() {
         return Err(none);
     }

@@ -77,6 +77,19 @@ fn images_have_a_table_of_their_own() {
 }
 
 #[test]
+fn patches_have_a_table_of_their_own() {
+    let output = bench(&["--quick", "--only", "patch"]);
+    assert!(output.status.success(), "{}", text(&output.stderr));
+    let rows = &block(text(&output.stdout), "patch of ")[1..];
+    assert_eq!(rows.len(), 8, "a plan and a check of four cases: {rows:#?}");
+    for row in rows {
+        let figures: Vec<f64> = row.split_whitespace().flat_map(str::parse).collect();
+        let [.., proved, rust, ratio] = figures[..] else { panic!("{row}") };
+        assert!(proved > 0.0 && rust > 0.0 && ratio > 0.0, "{row}");
+    }
+}
+
+#[test]
 fn instructions_are_the_same_in_every_run() {
     let counted = || bench(&["--instructions", "--only", "images, equal"]).stdout;
     let all = counted();

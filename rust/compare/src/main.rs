@@ -1,22 +1,22 @@
 //! `compare [--seed N] [--steps N]` runs the proved stub and the independent one on the same steps,
-//! for every twenty steps image differences of both on a pair of images, and for every other step a
-//! text packet, written or read. It prints what was reached; its last line is `N steps, no
-//! difference`. Where the sides differ it prints the shortest list of steps, or a short pair of
-//! images, or the packet, that shows it and what both have then.
+//! for every twenty steps image differences of both on a pair of images and a patch, checked and
+//! planned, and for every other step a text packet, written or read. It prints what was reached; its
+//! last line is `N steps, no difference`. Where the sides differ it prints the shortest list of steps,
+//! or a short pair of images, or the patch, or the packet, that shows it and what both have then.
 
 #![forbid(unsafe_code)]
 
-use compare::archive::archive;
-use compare::images;
+use compare::archive::{archive, PATCHES};
 use compare::run::Runner;
 use compare::texts::{self, Calls};
+use compare::{images, patches};
 use sanirvoq::call::{image_differences, text_decode, text_encode};
 use std::process::ExitCode;
 use std::time::{Duration, Instant};
 
 /// From this many steps on, everything that can be reached must be.
 const ALL_REACHED: u64 = 200_000;
-/// To one pair of images.
+/// To one pair of images, and to one patch.
 const STEPS_A_PAIR: u64 = 20;
 /// To one text packet.
 const STEPS_A_TEXT: u64 = 2;
@@ -81,8 +81,17 @@ fn main() -> ExitCode {
             return ExitCode::FAILURE;
         }
     };
-    print!("{}\n{}\n{}", runner.tally.table(), compared.table(), packets.table());
-    let lacking = [runner.tally.lacking(), compared.lacking(), packets.lacking()].concat();
+    let patched = match patches::run(PATCHES, seed, steps / STEPS_A_PAIR) {
+        Ok(patched) => patched,
+        Err(failure) => {
+            print!("seed {seed}: the sides differ on\n{failure}");
+            return ExitCode::FAILURE;
+        }
+    };
+    print!("{}\n{}\n", runner.tally.table(), compared.table());
+    print!("{}\n{}", packets.table(), patched.table());
+    let steps_lack = [runner.tally.lacking(), compared.lacking()].concat();
+    let lacking = [steps_lack, packets.lacking(), patched.lacking()].concat();
     if steps >= ALL_REACHED && !lacking.is_empty() {
         for name in lacking {
             println!("{name}");

@@ -1,6 +1,7 @@
-//! Checkers and planners with a fault are found, by what they did. Those without are the independent
-//! stub's own, so that these tests need no archive.
+//! Checkers and planners with a fault are found, by what they did; the archive's have none. Those with
+//! a fault are the independent stub's own but for that.
 
+use compare::archive::PATCHES;
 use compare::independent::Held;
 use compare::patches::{run, Calls, Checked, Lent, Planned};
 use reference::patch::{Judged, NotPatched, PatchLent, Write};
@@ -50,8 +51,8 @@ fn found(calls: Calls) -> Option<&'static str> {
 
 #[test]
 fn a_run_reaches_everything() {
-    for seed in [1, 2, 3] {
-        let tally = run(SOUND, seed, 20_000).unwrap_or_else(|failure| panic!("{failure}"));
+    for (calls, seed) in [(SOUND, 1), (PATCHES, 2), (PATCHES, 3)] {
+        let tally = run(calls, seed, 10_000).unwrap_or_else(|failure| panic!("{failure}"));
         assert_eq!(tally.lacking(), Vec::<String>::new(), "{}", tally.table());
     }
     let short = run(SOUND, 1, 100).unwrap_or_else(|failure| panic!("{failure}"));

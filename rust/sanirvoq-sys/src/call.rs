@@ -1,7 +1,9 @@
 //! The calls into the archive, over references. Each answers as the archive does, in numbers.
 
-use crate::ffi::{self, Comparison, Fields, Found, FrameFed, FrameReader, Length, Record, Run};
-use crate::ffi::{Target, TextFound, TextPacket, TextWritten};
+use crate::ffi::{
+    self, Comparison, Fields, Found, FrameFed, FrameReader, Length, Planning, Record,
+};
+use crate::ffi::{Run, Target, TextFound, TextPacket, TextWritten, Verdict, Write};
 use crate::{BLOCK, MESSAGE};
 use core::slice;
 
@@ -219,6 +221,76 @@ pub fn numbers(list: &mut [Run]) -> &mut [u32] {
     // SAFETY: A run is two `u32` and nothing else (asserted in `ffi`), so the memory of the list is
     // that of twice as many numbers, which the result borrows in its place. Any numbers are runs.
     unsafe { slice::from_raw_parts_mut(list.as_mut_ptr().cast(), 2 * list.len()) }
+}
+
+/// Checks an offer of writes from the plain window to a wanted image; answers as the archive does.
+/// What the room holds afterwards is of no account.
+#[must_use]
+pub fn patch_check(
+    record: &Record,
+    memory: &[u8],
+    registers: &[u8],
+    offer: &[Write],
+    wanted: &[u8],
+    room: &mut [u8],
+) -> Verdict {
+    let ((memory, memory_length), (registers, registers_length)) =
+        (shared(memory), shared(registers));
+    let ((offer, offer_length), (wanted, wanted_length)) = (shared(offer), shared(wanted));
+    let (room, room_length) = lent(room);
+    // SAFETY: Each pointer and its length come from one reference; those of `&` are taken as `const`,
+    // and nobody else has what the `&mut` lends. Any bytes are a record; places are 256. The function
+    // always returns, does not unwind and keeps no pointer.
+    unsafe {
+        ffi::sanirvoq_patch_check(
+            &raw const record.target,
+            record.places.as_ptr(),
+            memory,
+            memory_length,
+            registers,
+            registers_length,
+            offer,
+            offer_length,
+            wanted,
+            wanted_length,
+            room,
+            room_length,
+        )
+    }
+}
+
+/// Plans the writes from the plain window to a wanted image, at the front of the list; answers as the
+/// archive does. What the room holds afterwards is of no account.
+#[must_use]
+pub fn patch_plan(
+    record: &Record,
+    memory: &[u8],
+    registers: &[u8],
+    wanted: &[u8],
+    room: &mut [u8],
+    list: &mut [Write],
+) -> Planning {
+    let ((memory, memory_length), (registers, registers_length)) =
+        (shared(memory), shared(registers));
+    let (wanted, wanted_length) = shared(wanted);
+    let ((room, room_length), (list, list_length)) = (lent(room), lent(list));
+    // SAFETY: As for `patch_check`, and any numbers are writes.
+    unsafe {
+        ffi::sanirvoq_patch_plan(
+            &raw const record.target,
+            record.places.as_ptr(),
+            memory,
+            memory_length,
+            registers,
+            registers_length,
+            wanted,
+            wanted_length,
+            room,
+            room_length,
+            list,
+            list_length,
+        )
+    }
 }
 
 /// Writes a text packet; answers as the archive does.

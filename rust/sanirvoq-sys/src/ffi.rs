@@ -158,6 +158,42 @@ pub struct Comparison {
     pub runs: u32,
 }
 
+/// A write of a patch.
+#[repr(C)]
+#[derive(Debug, Clone, Copy, Default, PartialEq, Eq, Hash)]
+pub struct Write {
+    /// The address of its first byte.
+    pub address: u32,
+    /// How many bytes, 1 to 4.
+    pub count: u32,
+    /// The bytes; those beyond the count are ignored.
+    pub bytes: [u8; 4],
+}
+
+/// What checking an offer of writes answers.
+#[repr(C)]
+#[derive(Debug, Clone, Copy, Default, PartialEq, Eq)]
+pub struct Verdict {
+    /// 0, 2, 3 or 16.
+    pub number: u8,
+    /// 0 accepted, 1 a broken bound, 2 that the images differ.
+    pub verdict: u8,
+    /// The first write that breaks a bound, else 0.
+    pub index: u32,
+}
+
+/// What planning a patch answers.
+#[repr(C)]
+#[derive(Debug, Clone, Copy, Default, PartialEq, Eq)]
+pub struct Planning {
+    /// 0, 2, 3, 16, 17 or 21.
+    pub number: u8,
+    /// With number 21 the address of the lowest protected byte that differs, else 0.
+    pub address: u32,
+    /// With number 0 how many writes the plan has, else 0.
+    pub writes: u32,
+}
+
 /// A packet of the text dialect: `PID LETTER ADDR DATA`, or a reply's `PID LETTER ERRFLG RESPONSE`.
 #[repr(C)]
 #[derive(Debug, Clone, Copy, Default, PartialEq, Eq, Hash)]
@@ -259,6 +295,8 @@ const _: () = assert!(size_of::<Record>() == 1200 && align_of::<Record>() == 4);
 const _: () = assert!(offset_of!(Record, places) == 176);
 const _: () = assert!(size_of::<Fields>() == 20);
 const _: () = assert!(size_of::<Comparison>() == 8);
+const _: () = assert!(size_of::<Write>() == 12 && align_of::<Write>() == 4);
+const _: () = assert!(size_of::<Verdict>() == 8 && size_of::<Planning>() == 12);
 const _: () = assert!(size_of::<TextPacket>() == 16 && align_of::<TextPacket>() == 4);
 const _: () = assert!(size_of::<TextWritten>() == 8 && size_of::<TextFound>() == 20);
 // Two numbers and nothing else.
@@ -360,6 +398,36 @@ exports! {
         list: *mut u32,
         places: Length,
     ) -> Comparison;
+    /// Checks an offer of writes against a wanted image; lengths of lists count writes.
+    fn sanirvoq_patch_check(
+        target: *const Target,
+        places: *const u32,
+        memory: *const u8,
+        memory_length: Length,
+        registers: *const u8,
+        registers_length: Length,
+        offer: *const Write,
+        offer_length: Length,
+        wanted: *const u8,
+        wanted_length: Length,
+        room: *mut u8,
+        room_length: Length,
+    ) -> Verdict;
+    /// Plans the writes to a wanted image.
+    fn sanirvoq_patch_plan(
+        target: *const Target,
+        places: *const u32,
+        memory: *const u8,
+        memory_length: Length,
+        registers: *const u8,
+        registers_length: Length,
+        wanted: *const u8,
+        wanted_length: Length,
+        room: *mut u8,
+        room_length: Length,
+        list: *mut Write,
+        list_length: Length,
+    ) -> Planning;
     /// Writes a text packet to the front of a buffer.
     fn sanirvoq_text_encode(packet: TextPacket, buffer: *mut u8, length: Length) -> TextWritten;
     /// Reads a text packet.

@@ -2,8 +2,10 @@
 //! and behind it, step by step. `examples/kernel.c` is the same in C and prints the same text, which
 //! is kept in `examples/kernel.txt`.
 
-use sanirvoq::{differences, frame_reply, Answer, FrameReader, Frames, Message, Process, Refusal};
-use sanirvoq::{Run, Served, Setup, Stub, TextPacket, Verdict};
+use sanirvoq::{
+    differences, frame_reply, Answer, FrameReader, Frames, Message, NotPlanned, Offered,
+};
+use sanirvoq::{PatchWrite, Process, Refusal, Run, Served, Setup, Stub, TextPacket, Verdict};
 use sanirvoq::{BLOCK, FRAMED_REPLY, FRAME_BUFFER, MESSAGE, TEXT};
 use std::error::Error;
 
@@ -337,6 +339,34 @@ impl Kernel {
         Ok(())
     }
 
+    /// The fewest writes to a wanted image, checked and then sent.
+    fn plan_a_patch(&mut self) -> Done {
+        println!(
+            "She plans the fewest writes for six new bytes at 0x1020. They are accepted, and sent."
+        );
+        let (mut wanted, mut room) = (self.memory.clone(), [0; SIZE as usize]);
+        wanted[0x20..0x26].copy_from_slice(&[0xf0, 0xf1, 0xf2, 0xf3, 0xf4, 0xf5]);
+        let (memory, registers) = (&self.memory, &self.registers);
+        let mut list = [PatchWrite::default(); 4];
+        let plan = self.stub.plan_patch(memory, registers, &wanted, &mut room, &mut list)?;
+        let verdict = self.stub.check_patch(memory, registers, plan, &wanted, &mut room)?;
+        let accepted = if verdict == Offered::Accepted { "accepted" } else { "not accepted" };
+        line("plan", &format!("{} writes, {accepted}", plan.len()));
+        for &mut PatchWrite { address, count, bytes } in plan {
+            let put = Message::Tmput { addr: address, n: count.try_into()?, data: bytes };
+            self.serve("Tmput of the plan", put.encode()?)?;
+        }
+        self.show_memory_at(0x1020);
+        println!("For another power limit there is no plan.");
+        wanted[(LIMIT - BASE) as usize] = 0xff;
+        let (memory, registers) = (&self.memory, &self.registers);
+        let refused = self.stub.plan_patch(memory, registers, &wanted, &mut room, &mut list);
+        if let Err(NotPlanned::Protected { address }) = refused {
+            line("plan", &format!("refused with number 21 at {address:#x}"));
+        }
+        Ok(())
+    }
+
     /// A trap is overwritten from outside: number 3, and the record is given up.
     fn lose_a_trap(&mut self) -> Done {
         println!(
@@ -371,6 +401,7 @@ fn main() -> Done {
     kernel.speak_in_frames()?;
     kernel.restart()?;
     kernel.compare()?;
+    kernel.plan_a_patch()?;
     kernel.lose_a_trap()?;
     assert_eq!(kernel.at(SITE), [0x08, 0xaa, 0xbb, 0xcc, 0xee, 0x0d, 0x0e, 0x0f]);
     Ok(())

@@ -52,6 +52,7 @@
 mod frame;
 mod image;
 mod message;
+mod patch;
 mod refusal;
 mod stub;
 mod text;
@@ -60,8 +61,9 @@ mod text_step;
 pub use frame::{frame_reply, Answer, Answers, Frames, NotFramed};
 pub use image::{differences, NotCompared};
 pub use message::{Message, Reason};
+pub use patch::{NotPlanned, Offered};
 pub use refusal::Refusal;
-pub use sanirvoq_sys::ffi::{FrameReader, Run};
+pub use sanirvoq_sys::ffi::{FrameReader, Run, Write as PatchWrite};
 pub use sanirvoq_sys::{call, ffi, Element, RecordWords, BLOCK, MESSAGE, WORDS};
 pub use stub::{Process, Served, Setup, Stub, Verdict};
 pub use text::{NotText, TextPacket};
@@ -74,5 +76,7 @@ pub const IMAGE: usize = 65_536;
 pub const TEXT: usize = 34;
 /// The bytes of the shortest buffer that [`Frames`] takes: the longest body and its checksum.
 pub const FRAME_BUFFER: usize = 534;
+/// The writes of the longest offer that [`Stub::check_patch`] takes, and of the longest plan.
+pub const PATCH_WRITES: usize = 16_384;
 /// The bytes of a framed reply.
 pub const FRAMED_REPLY: usize = 26;

@@ -25,13 +25,16 @@ pub enum Refusal {
     NoPacket,
     /// The buffer for the reply to a text request is shorter than [`TEXT`](crate::TEXT).
     TextBuffer,
+    /// A wanted image is not of the window's size, or an offer has over
+    /// [`PATCH_WRITES`](crate::PATCH_WRITES) writes.
+    Patch,
     /// A number that this edition has no name for.
     Other(u8),
 }
 
 impl Refusal {
     /// All that have a name.
-    pub const ALL: [Self; 9] = [
+    pub const ALL: [Self; 10] = [
         Self::Setup,
         Self::Size,
         Self::Unfit,
@@ -41,6 +44,7 @@ impl Refusal {
         Self::NoMessage,
         Self::NoPacket,
         Self::TextBuffer,
+        Self::Patch,
     ];
 
     /// The number in document 01's table.
@@ -56,6 +60,7 @@ impl Refusal {
             Self::NoMessage => 7,
             Self::NoPacket => 10,
             Self::TextBuffer => 11,
+            Self::Patch => 16,
             Self::Other(number) => number,
         }
     }
@@ -82,6 +87,7 @@ impl fmt::Display for Refusal {
             Self::NoMessage => "no message",
             Self::NoPacket => "no text packet",
             Self::TextBuffer => "the buffer is shorter than the longest text",
+            Self::Patch => "the image is not of the window's size, or the offer is too long",
             Self::Other(number) => return write!(f, "refused with number {number}"),
         })
     }
@@ -103,7 +109,7 @@ mod tests {
 
     #[test]
     fn numbers_with_a_name_have_it() {
-        assert_eq!(Refusal::ALL.map(Refusal::number), [1, 2, 3, 4, 5, 6, 7, 10, 11]);
+        assert_eq!(Refusal::ALL.map(Refusal::number), [1, 2, 3, 4, 5, 6, 7, 10, 11, 16]);
         for refusal in Refusal::ALL {
             assert_eq!(Refusal::check(refusal.number()), Err(refusal));
         }
