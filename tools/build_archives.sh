@@ -90,4 +90,6 @@ archive rv64imac lp64 --small
 
 echo "The crate sanirvoq is proved ($(grep '^logic=proved ' "$out/staticlib.log" | tail -1 | cut -d' ' -f1,2))."
 echo "These archives are its module, compiled. The compilation is not proved; tests/riscv.sh and outside.sh test it:"
-(cd "$out" && ls -l */libsanirvoq.a | awk '{ printf "  %6d bytes  target/archives/%s\n", $5, $9 }')
+for file in "$out"/*/libsanirvoq.a; do
+    printf '  %6d bytes  %s\n' "$(wc -c < "$file")" "${file#"$PWD/"}"
+done

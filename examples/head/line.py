@@ -92,10 +92,10 @@ class Head:
             if not piece:
                 self.more(until)
 
-    def ask(self, body=b""):
-        """Sends a message and answers the reply. With no message: asks the head to restart."""
+    def ask(self, body=b"", noise=b""):
+        """Sends a message, noise in front of it, and answers the reply. With no message: asks the head to restart."""
         self.sequence = (self.sequence + 1) % 256
-        self.qemu.stdin.write(packet(self.sequence, body))
+        self.qemu.stdin.write(noise + packet(self.sequence, body))
         self.qemu.stdin.flush()
         return self.reply(time.monotonic() + PATIENCE)
 

@@ -6,7 +6,7 @@
 # Needs qemu: apt-get install qemu-system-misc
 set -euo pipefail
 cd "$(dirname "$0")/../.."
-name=head
+name='head'
 if [ "${1:-}" = --naive ]; then
     name=naive
     shift

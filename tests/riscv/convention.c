@@ -136,6 +136,29 @@ static void small_results(void) {
     check("encode, size", is_byte(whole_encode(fields, reply, 11), 2));
 }
 
+/* A result of 12 bytes, and one of 8 with two narrow parts. */
+static void patches(void) {
+    uint8_t wanted[WINDOW], room[WINDOW];
+    struct sanirvoq_write list[2] = {{9, 9, {9, 9, 9, 9}}, {9, 9, {9, 9, 9, 9}}};
+    set_up();
+    for (int i = 0; i < WINDOW; i++) {
+        wanted[i] = memory[i];
+    }
+    wanted[3] = 0xaa, wanted[63] = 0xbb;
+    const struct sanirvoq_planning plan = sanirvoq_plan(&record, lent, wanted, WINDOW, room, WINDOW, list, 2);
+    check("plan", plan.number == 0 && plan.address == 0 && plan.writes == 2);
+    check("its first write", list[0].address == 0x1003 && list[0].count == 4 && list[0].bytes[0] == 0xaa);
+    check("its last write", list[1].address == 0x103f && list[1].count == 1 && list[1].bytes[0] == 0xbb);
+    const struct sanirvoq_verdict good = sanirvoq_check(&record, lent, list, 2, wanted, WINDOW, room, WINDOW);
+    check("accepted", good.number == 0 && good.verdict == SANIRVOQ_VERDICT_ACCEPTED && good.index == 0);
+    list[1].count = 2;
+    const struct sanirvoq_verdict bad = sanirvoq_check(&record, lent, list, 2, wanted, WINDOW, room, WINDOW);
+    check("broken", bad.number == 0 && bad.verdict == SANIRVOQ_VERDICT_BROKEN_BOUND && bad.index == 1);
+    wanted[0x21] ^= 1;
+    const struct sanirvoq_planning none = sanirvoq_plan(&record, lent, wanted, WINDOW, room, WINDOW, list, 2);
+    check("plan, protected", none.number == 21 && none.address == 0x1021 && none.writes == 0);
+}
+
 /* Structs as arguments: 16, 20 and 24 bytes; as results: 8, 20, 24 and 48. The caller's own stay as they are. */
 static void structs(void) {
     static const uint8_t text[] = "0xfedcba98 R 0x21 0x80000001";
@@ -184,6 +207,7 @@ int test(void) {
     steps();
     small_results();
     structs();
+    patches();
     print_number(checks);
     print(" checks, ");
     print_number(failures);

@@ -6,10 +6,12 @@
 The kernel of examples/head has to run each instruction elsewhere (Pass), and both processes must come to the sum that
 they come to without a breakpoint. At an instruction of four bytes a second breakpoint stands on its second half
 meanwhile. Then faults: of an instruction, and of one that runs elsewhere. Then a trap that something else than the stub
-overwrites, here by qemu's own debugger: the session is lost, the program is not. The last line is 'N tried, M failed'.
+overwrites, here by qemu's own debugger: the session is lost, the program is not. Then noise on the line before a
+request. The last line is 'N tried, M failed'.
 Needs target/head/instructions.elf (examples/head/build.sh tests/riscv/instructions.S).
 """
 
+import random
 import socket
 import sys
 import tempfile
@@ -18,7 +20,7 @@ from pathlib import Path
 ROOT = Path(__file__).resolve().parent.parent.parent
 sys.path.insert(0, str(ROOT / "examples" / "head"))
 
-from line import Head  # noqa: E402
+from line import Head, packet  # noqa: E402
 
 BEGIN, LUI = 0x80100012, 0x8010001A  # the first instruction of the loop, and one of four bytes
 NAMES = ("left", "right")
@@ -137,6 +139,15 @@ def overwritten(head, path):
     return lost == "the debug session is lost, traps overwritten: 1" and plain(head, LUI, 4) == kept
 
 
+def noises():
+    """Bytes of every kind, a packet that is cut, and one with a byte changed, which gets no answer."""
+    chance = random.Random(1)
+    whole = packet(7, bytes([4]) + word(LUI) + b"\x02abcd")
+    yield bytes(chance.randrange(256) for _ in range(300))
+    yield whole[:13]
+    yield whole[:20] + bytes([whole[20] ^ 1]) + whole[21:]
+
+
 def main():
     count = failed = 0
     folder = tempfile.TemporaryDirectory()
@@ -158,6 +169,11 @@ def main():
         if not overwritten(head, path) or sums(head) != wanted:
             print("a trap that is overwritten is handled otherwise")
             failed += 1
+        for noise in noises():
+            count += 1
+            if head.ask(bytes([8]) + word(5) + bytes(5), noise) != b"\x09Ready\0\0\0\0" or sums(head) != wanted:
+                print(f"noise is taken for something: {noise.hex()}")
+                failed += 1
     print(f"{count} tried, {failed} failed")
     sys.exit(failed != 0)
 

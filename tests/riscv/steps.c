@@ -13,7 +13,7 @@
 #define SEED 1
 #endif
 
-enum { WINDOW = 64, AREA = 4 * SANIRVOQ_BLOCK_SIZE, IMAGE = 300, RUNS = 40, LINE = 700 };
+enum { WINDOW = 64, AREA = 4 * SANIRVOQ_BLOCK_SIZE, IMAGE = 300, RUNS = 40, LINE = 700, WRITES = 20 };
 
 /* ---- chance and sums ---- */
 
@@ -50,12 +50,12 @@ static void copy(uint8_t *to, const uint8_t *from, uint32_t length) {
 
 enum kind {
     SETUP, REQUEST, TRAP, SCHEDULE, STATE, RESTART, TEXT, ENCODE, DECODE, TEXT_ENCODE, TEXT_DECODE, IMAGES, FEED,
-    FRAME_REPLY, KINDS
+    FRAME_REPLY, CHECK, PLAN, KINDS
 };
 
 static const char *const names[KINDS] = {
     "setup", "request", "trap", "schedule", "state", "restart", "text", "message_encode", "message_decode",
-    "text_encode", "text_decode", "image_differences", "frame_feed", "frame_reply"
+    "text_encode", "text_decode", "image_differences", "frame_feed", "frame_reply", "patch_check", "patch_plan"
 };
 
 static struct sanirvoq_record record;
@@ -78,10 +78,13 @@ struct call {
     struct sanirvoq_text_found text_found;
     struct sanirvoq_comparison comparison;
     struct sanirvoq_frame_fed fed;
+    struct sanirvoq_verdict verdict;
+    struct sanirvoq_planning planning;
 };
 
 static uint32_t list[2 * RUNS];
-static uint8_t body[SANIRVOQ_FRAME_BUFFER_SIZE];
+static uint8_t body[SANIRVOQ_FRAME_BUFFER_SIZE], room[WINDOW + 4];
+static struct sanirvoq_write writes[WRITES];
 
 /* The mark is taken in the branch of the call itself, where the frame of this function is complete. */
 #define CALL(call)              \
@@ -110,6 +113,12 @@ static void make(void *argument) {
         break;
     case FEED: CALL(c->fed = sanirvoq_frame_feed(c->reader, c->a, c->a_length, body, c->b_length)); break;
     case FRAME_REPLY: CALL(c->result = sanirvoq_frame_reply(c->value, input, in, reply, out)); break;
+    case CHECK:
+        CALL(c->verdict = sanirvoq_check(&record, lent, writes, c->places, c->a, c->a_length, room, c->b_length));
+        break;
+    case PLAN:
+        CALL(c->planning = sanirvoq_plan(&record, lent, c->a, c->a_length, room, c->b_length, writes, c->places));
+        break;
     case KINDS: break;
     }
 }
@@ -117,7 +126,7 @@ static void make(void *argument) {
 /* ---- what came out ---- */
 
 static uint32_t numbers[32], calls[KINDS], deepest[KINDS], served, stops, passes, continued, packets, text_errors;
-static uint32_t protected_writes, protected_sites;
+static uint32_t protected_writes, protected_sites, verdicts[4];
 
 static void add_record(void) {
     const struct sanirvoq_target *t = &record.target;
@@ -172,7 +181,19 @@ static void add_outcome(const struct call *c) {
         add_bytes(body, c->fed.answer.size);
         packets += c->fed.answer.kind == SANIRVOQ_FRAME_ANSWER_PACKET;
         break;
+    case CHECK:
+        number = c->verdict.number;
+        add(c->verdict.verdict), add(c->verdict.index);
+        verdicts[c->verdict.verdict & 3] += number == 0;
+        break;
+    case PLAN:
+        number = c->planning.number;
+        add(c->planning.address), add(c->planning.writes);
+        break;
     default: add(c->result);
+    }
+    for (int i = 0; (c->kind == CHECK || c->kind == PLAN) && i < WRITES; i++) {
+        add(writes[i].address), add(writes[i].count), add_bytes(writes[i].bytes, 4);
     }
     const uint32_t answer = sanirvoq_answer(c->result);
     add(number);
@@ -398,6 +419,34 @@ static void some_images(void) {
     go(&c);
 }
 
+/* A plan from the window to an image of it with some bytes changed, and the plan checked, damaged now and then. */
+static void some_patch(void) {
+    static uint8_t wanted[WINDOW + 4];
+    struct call c = {.kind = PLAN, .a = wanted, .a_length = about(WINDOW), .b_length = about(WINDOW)};
+    c.places = one_in(4) ? below(WRITES + 1) : WRITES;
+    copy(wanted, memory, sizeof wanted);
+    for (int i = 0; i < SANIRVOQ_ENTRIES; i++) {
+        const struct sanirvoq_entry *entry = &record.target.table.entries[i];
+        if (entry->used == 1) {
+            copy(wanted + (entry->site - 0x1000), entry->plain, 2);
+        }
+    }
+    for (uint32_t i = below(12); i > 0; i--) {
+        wanted[below(WINDOW)] = (uint8_t)any();
+    }
+    go(&c);
+    c.kind = CHECK;
+    c.places = c.planning.number == 0 ? c.planning.writes : below(WRITES + 1);
+    if (one_in(4)) {
+        struct sanirvoq_write *write = &writes[below(WRITES)];
+        write->address = one_in(2) ? any() : some_address();
+        write->count = below(6);
+        write->bytes[0] = (uint8_t)any();
+    }
+    c.a_length = about(WINDOW);
+    go(&c);
+}
+
 /* ---- packets ---- */
 
 static uint8_t line[LINE];
@@ -543,8 +592,10 @@ static void some_step(void) {
         some_packet();
     } else if (which < 930) {
         some_fields();
-    } else if (which < 950) {
+    } else if (which < 940) {
         some_images();
+    } else if (which < 950) {
+        some_patch();
     } else if (which < 970) {
         wrong_length();
     } else if (which < 985) {
@@ -575,7 +626,9 @@ static int reached_all(void) {
     for (int i = 0; i <= SANIRVOQ_ERR_FRAME; i++) {
         all = all && numbers[i] > 0;
     }
-    return all;
+    return all && numbers[SANIRVOQ_ERR_PATCH] > 0 && numbers[SANIRVOQ_ERR_PLAN_LIST] > 0 &&
+           numbers[SANIRVOQ_ERR_PROTECTED] > 0 && verdicts[SANIRVOQ_VERDICT_ACCEPTED] > 0 &&
+           verdicts[SANIRVOQ_VERDICT_BROKEN_BOUND] > 0 && verdicts[SANIRVOQ_VERDICT_IMAGES_DIFFER] > 0;
 }
 
 int test(void) {
@@ -603,7 +656,7 @@ int test(void) {
         report(names[i], calls[i]);
     }
     print("; numbers");
-    for (int i = 0; i <= SANIRVOQ_ERR_FRAME; i++) {
+    for (int i = 0; i <= SANIRVOQ_ERR_PROTECTED; i++) {
         print(" ");
         print_number(numbers[i]);
     }
@@ -611,6 +664,9 @@ int test(void) {
     report("served", served), report("stops", stops), report("passes", passes), report("continued", continued);
     report("packets", packets), report("text errors", text_errors), report("protected writes", protected_writes);
     report("protected sites", protected_sites);
+    report("accepted", verdicts[SANIRVOQ_VERDICT_ACCEPTED]);
+    report("broken bound", verdicts[SANIRVOQ_VERDICT_BROKEN_BOUND]);
+    report("images differ", verdicts[SANIRVOQ_VERDICT_IMAGES_DIFFER]);
     print("\n");
     return reached_all();
 }
