@@ -27,8 +27,9 @@
  * and a call is not made from an interrupt that came during another call with the same record. Calls with different
  * records and buffers may run at once.
  *
- * Stack. Have 2,048 bytes for a call on x86-64 and 4,096 on RISC-V: a step takes less, as measured
- * (docs/PERFORMANCE.md has the figures), and the calls that need no record less again. No theorem bounds it.
+ * Stack. Have 4,096 bytes for a call: it takes less on every machine, as measured (docs/PERFORMANCE.md has the
+ * figures). No theorem bounds it. The stack pointer is a multiple of 16 at a call, as the conventions have it; code
+ * written in assembly has to see to that.
  *
  * x86-64. The archive is compiled as for user space. It uses the red zone, the 128 bytes below the stack pointer, so
  * an interrupt that comes during a call must run on another stack (an IST entry), or interrupts are off. It uses the

@@ -5,8 +5,8 @@
 # those of the folder SANIRVOQ_LIB.
 # A check prints 'ok NAME' or 'FAILED NAME'; what it wrote is in target/outside/NAME.log. None is left out: where a
 # part of the repository, a program of the gate or a tool is missing, its checks fail.
-# Needs rt, cargo with clippy and rustfmt, gcc, g++, valgrind and python3. The last line is 'N passed, M failed'; exit
-# status 1 unless M is 0.
+# Needs rt, cargo with clippy and rustfmt (by rustup), and on Debian 12: apt-get install gcc g++ valgrind python3
+# The last line is 'N passed, M failed'; exit status 1 unless M is 0.
 set -uo pipefail
 if [ -n "${SANIRVOQ_LIB:-}" ]; then
     SANIRVOQ_LIB=$(realpath -m -- "$SANIRVOQ_LIB")
@@ -155,6 +155,13 @@ calls_by_reference() {
     crate build reference --example "$1" && python3 "tests/$1.py" "rust/target/release/examples/$1"
 }
 
+# A routine patched across a breakpoint, by the planner's writes.
+example_patch() {
+    c11 -O2 -Iinclude examples/patch.c "$library" -o "$logs/patch_c" &&
+        under_valgrind "$logs/patch_c" > "$logs/patch_c.txt" &&
+        diff examples/patch.txt "$logs/patch_c.txt"
+}
+
 example_rust() {
     crate run sanirvoq --example kernel > "$logs/kernel_rust.txt" &&
         diff examples/kernel.txt "$logs/kernel_rust.txt"
@@ -173,6 +180,7 @@ check header_calls header_calls
 check example_c example_c
 check example_c_valgrind under_valgrind "$logs/kernel_c"
 check example_rust example_rust
+check example_patch example_patch
 check examples_equal diff "$logs/kernel_c.txt" "$logs/kernel_rust.txt"
 check images_c images_c
 check texts_c texts_c

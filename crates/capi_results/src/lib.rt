@@ -63,6 +63,16 @@ pub fn setup(t: Target, mem: &[u8], regs: &[u8], from: u64, to: u64) -> Whole
     let p3 = ps[3];
     let pids = [p0.pid, p1.pid, p2.pid, p3.pid];
     let addresses = [p0.address, p1.address, p2.address, p3.address];
-    let d = step_setup::setup(t.base, t.size, from, to, pids, addresses, t.count, mem, regs);
+    let d = step_setup::setup(
+        t.base,
+        t.size,
+        from,
+        to,
+        pids,
+        addresses,
+        t.count,
+        mem,
+        regs,
+    );
     give_whole(d)
 }

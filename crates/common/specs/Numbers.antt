@@ -53,3 +53,15 @@ shortText = 11
 -- 02, Nine: "A body buffer under 534 bytes, a reply's not 26, or a sequence past its field"
 abbrev pub wrongFrame : ℕ
 wrongFrame = 12
+
+-- 02, Twelve: "another image size, or a longer offer"
+abbrev pub wrongPatch : ℕ
+wrongPatch = 16
+
+-- 02, Twelve: "too short a list"
+abbrev pub shortPlan : ℕ
+shortPlan = 17
+
+-- 02, Twelve: "A differing protected byte"
+abbrev pub protectedByte : ℕ
+protectedByte = 21

@@ -35,6 +35,12 @@ pub const SHORT_TEXT: u8 = 11;
 
 pub const WRONG_FRAME: u8 = 12;
 
+pub const WRONG_PATCH: u8 = 16;
+
+pub const SHORT_PLAN: u8 = 17;
+
+pub const PROTECTED_BYTE: u8 = 21;
+
 // A byte in four. Its contract carries the bound that a product needs.
 fn wide(x: u8) -> u32
     ensures { λ r. ⌜ (r ≡ x) × (r < 256) ⌝ }

@@ -72,7 +72,8 @@ module _ (p : Stretch) where
 
     -- of an empty stretch no byte is
     pub has-empty : p .length ≡ 0 → hasProtected p at n ≡ false
-    has-empty z = none-by (λ j l. on-less (at + j) (p .offset) (below-free (at + j)) (λ k. past-free (at + j) (omega arith)))
+    has-empty z =
+        none-by (λ j l. on-less (at + j) (p .offset) (below-free (at + j)) (λ k. past-free (at + j) (omega arith)))
 
     -- they meet where neither lies before the other
     pub has-met : 0 < n → p .offset < at + n → at < p .offset + p .length

@@ -17,8 +17,8 @@ pub record Head : Type 0 where
 abbrev pub width : Head → ℕ
 width h = length (h .trap)
 
--- traps stand at multiples of their length, which divides an entry's room for plain bytes: two bytes or four; a word has
--- four bytes
+-- traps stand at multiples of their length, which divides an entry's room for plain bytes: two bytes or four; a word
+-- has four bytes
 pub record Lawful (h : Head) : Type 0 where
   pub least : 2 ≤ width h
   pub divides : plainRoom % width h ≡ 0

@@ -4,20 +4,10 @@ use mathlib.Core.Bool.{cond}
 use mathlib.Core.List.{List, _++_}
 use lib.Dec.{ltb}
 use lib.ListN.{length, drop}
-use Rattle.common.specs.Numbers.{accepted}
+use Rattle.common.specs.Numbers.{accepted, shortPlan, protectedByte}
 use Rattle.patch.specs.Plan.{plan, protectedDiffers}
 use Rattle.patch.specs.declared.Planning.{Planning}
 use Rattle.patch.specs.declared.Write.{Write}
-
--- the numbers of Twelve that the core gives; they are to join `common`'s table
-
--- "too short a list"
-abbrev pub shortPlan : ℕ
-shortPlan = 17
-
--- "A differing protected byte"
-abbrev pub protectedByte : ℕ
-protectedByte = 21
 
 -- the answer of a call, and the list after it
 pub record Planned : Type 0 where

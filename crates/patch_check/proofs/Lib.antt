@@ -1,3 +1,4 @@
 pub mod Again
 pub mod Elem
 pub mod Folds
+pub mod Tests

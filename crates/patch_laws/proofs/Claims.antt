@@ -7,10 +7,10 @@ use native.Mathlib.Omega.{arith}
 use borrow.Author.Tests.{lt-ltb, le-ltb}
 use lib.ListN.{length, getD, take, drop}
 use lib.Seq.{take-append-seam, drop-append-seam}
-use Rattle.common.specs.Numbers.{accepted}
+use Rattle.common.specs.Numbers.{accepted, shortPlan, protectedByte}
 use Rattle.common.proofs.Cases.{on-test, on-less}
 use Rattle.common.proofs.Same.{true-or-false}
-use Rattle.patch.specs.Answer.{Planned, planned, planning, planOf, shortPlan, protectedByte}
+use Rattle.patch.specs.Answer.{Planned, planned, planning, planOf}
 use Rattle.patch.specs.Check.{isFree, inBounds, verdict}
 use Rattle.patch.specs.Plan.{plan, protectedDiffers}
 use Rattle.patch.specs.declared.Write.{Write}

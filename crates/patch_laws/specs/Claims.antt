@@ -5,8 +5,8 @@ use mathlib.Core.Path.{_≡_}
 use mathlib.Core.List.{List, [], _++_}
 use mathlib.Core.Logic.{_↔_}
 use lib.ListN.{length, getD, take, drop}
-use Rattle.common.specs.Numbers.{accepted}
-use Rattle.patch.specs.Answer.{Planned, planned, planning, planOf, shortPlan, protectedByte}
+use Rattle.common.specs.Numbers.{accepted, shortPlan, protectedByte}
+use Rattle.patch.specs.Answer.{Planned, planned, planning, planOf}
 use Rattle.patch.specs.Check.{isFree, applied, appliedAll, verdict, checkFrom, verdictOf}
 use Rattle.patch.specs.Plan.{plan}
 use Rattle.patch.specs.declared.Write.{Write}

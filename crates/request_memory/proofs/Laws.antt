@@ -47,6 +47,9 @@ use Rattle.wire.specs.declared.Message.the-variants.{Rerr, Rmget, Rmput}
 use Rattle.wire_text.specs.declared.Reason.{Reason}
 use Rattle.wire_text.specs.declared.Reason.the-variants.{Inval, Pid, Notstop}
 use Rattle.request_memory.specs.Access.{blockOf, blockPart, blockReply}
+use Rattle.common.proofs.Cases.{on-test}
+use Rattle.request_memory.specs.Wrote.{wroteOf}
+use Rattle.request_memory.specs.declared.Wrote.{Wrote}
 use Rattle.request_memory.specs.declared.Block.{Block}
 use Rattle.request_memory.specs.declared.Block.the-variants as block
 use Rattle.request_memory.specs.declared.Block.the-variants.{Refused}
@@ -225,6 +228,20 @@ pub wrote-stored : (t : StoredTarget) (words old regs : List ℕ) (addr : ℕ) (
 wrote-stored t words old regs addr bytes ss ps mem plain e f m p =
     rw (stored-plains t plain words)
     (wrote-window (world (viewOf t words) old regs) addr bytes ss ps e f mem plain m p)
+
+-- what a write of the code changes is what the rule's window has after it
+pub wrote-is : (t : StoredTarget) (words old regs : List ℕ) (addr : ℕ) (bytes ss ps mem : List ℕ) (r : Wrote)
+    → let w = world (viewOf t words) old regs in
+    Roomy (viewOf t words .table .entries) → ss ≡ sites (w .target) → ps ≡ plains (w .target)
+    → mem ≡ memAfter (width house) ss old (addr - t .base) bytes
+    → r ≡ wroteOf ps (plainAfter (width house) ss ps (addr - t .base) bytes)
+    → world (viewOf (stored t (r .change) (r .plain)) words) mem regs ≡ windowWritten house w addr bytes
+unfolding wroteOf stored
+wrote-is t words old regs addr bytes ss ps mem r room e f m g =
+    let new = plainAfter (width house) ss ps (addr - t .base) bytes in
+    on-test (sameList ps new)
+    (λ q. rw (g, q) (wrote-same (world (viewOf t words) old regs) addr bytes ss ps e f mem new m refl room q))
+    (λ q. rw (g, q) (wrote-stored t words old regs addr bytes ss ps mem new e f m refl))
 
 module _ (w : World) (addr n : ℕ) (d : Data4) where
   pub put-none : n ≡ 0 → (reply : List ℕ) → reply ≡ bytesOf Rmput → outcome 0 Nothing w reply ≡ mput house w addr n d

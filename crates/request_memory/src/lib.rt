@@ -18,7 +18,7 @@ ghost use mathlib.Core.List.{List};
 ghost use mathlib.Core.Bool.{true};
 ghost use Prim.Native.Nat.{ℕ, _+_, _*_, _≤_};
 ghost use lib.ListN.{length};
-ghost use Rattle.memory.specs.Head.{house};
+ghost use Rattle.memory.specs.Head.{house, width};
 ghost use Rattle.target.specs.Limits.{blockSize, maxProcesses};
 ghost use Rattle.target_fit.specs.Fit.{currentFit};
 ghost use Rattle.memory.specs.declared.Place.the-variants as place;
@@ -29,9 +29,10 @@ ghost use Rattle.rules.specs.Outcome.{world, outcome};
 ghost use Rattle.step_effect.specs.Effect.{requestOutcome};
 ghost use Rattle.step_effect.specs.Ready.{Blocks, Lent, Arrays};
 ghost use Rattle.target.specs.View.{viewOf};
-ghost use Rattle.rules.specs.Request.{data9Of, windowWritten, putTo, mget as mgetOf, mput as mputOf};
-ghost use Rattle.step_effect.specs.Change.{stored};
+ghost use Rattle.rules.specs.Request.{data9Of, putTo, mget as mgetOf, mput as mputOf};
+ghost use Rattle.memory.specs.Write.{memAfter, plainAfter};
 ghost use Rattle.request_memory.specs.Access.{blockOf, blockPart, blockReply};
+ghost use Rattle.request_memory.specs.Wrote.{wroteOf};
 
 // The index of the current process's block, or why it may not be used.
 pub enum Block {
@@ -161,20 +162,23 @@ pub struct Wrote {
     pub plain: [u8; Table::PLAIN],
 }
 
-// Writes bytes into the window, those under a trap to the entry's plain bytes. All writes go through this one.
-pub fn put_window(t: Target, s: Scan, mem: &mut [u8], addr: u32, bytes: &[u8]) -> Wrote
-    requires { ⌜ (length (now mem) ≡ t .size) × (t .base ≤ addr)
-        × (addr + length (now bytes) ≤ t .base + t .size) ⌝ }
-    ensures { λ r. ⌜ ((words regs : List ℕ) → Arrays (viewOf t words) s
-        → world (viewOf (stored t (r .change) (r .plain)) words) (now (mem .exit)) regs
-        ≡ windowWritten house (world (viewOf t words) (now (mem .entry)) regs) addr (now (bytes .entry))) ⌝ }
+// Writes bytes into the window from an offset on, those under a trap to the slots' plain bytes. All writes go through
+// this one. It takes no record and no scan: it has two callers, and they would be copied for each.
+pub fn put_window(
+    mem: &mut [u8],
+    sites: &[u32; Table::ENTRIES],
+    plain: [u8; Table::PLAIN],
+    at: usize,
+    bytes: &[u8],
+) -> Wrote
+    requires { ⌜ at + length (now bytes) ≤ length (now mem) ⌝ }
+    ensures { λ r. ⌜ (now (mem .exit) ≡ memAfter (width house) (now (sites .entry)) (now (mem .entry)) at
+        (now (bytes .entry)))
+        × (r ≡ wroteOf plain (plainAfter (width house) (now (sites .entry)) plain at (now (bytes .entry)))) ⌝ }
 {
-    let sites = s.sites;
-    let mut plain = s.plain;
-    let at = (addr - t.base) as usize;
-    memory::write(mem, &sites, &mut plain, at, bytes);
-    let old = s.plain;
-    if common::equal(&old, &plain) {
+    let mut after = plain;
+    memory::write(mem, sites, &mut after, at, bytes);
+    if common::equal(&plain, &after) {
         return Wrote {
             change: Change::Same,
             plain: [0; Table::PLAIN],
@@ -182,7 +186,7 @@ pub fn put_window(t: Target, s: Scan, mem: &mut [u8], addr: u32, bytes: &[u8]) -
     }
     Wrote {
         change: Change::Plain,
-        plain: plain,
+        plain: after,
     }
 }
 
@@ -219,7 +223,10 @@ pub fn mput(
             )
         }
         Place::Window => {
-            let w = put_window(t, s, mem, addr, &bytes[..count]);
+            let at = (addr - t.base) as usize;
+            let sites = s.sites;
+            let plain = s.plain;
+            let w = put_window(mem, &sites, plain, at, &bytes[..count]);
             let change = w.change;
             let plain = w.plain;
             Effect::of(common::ACCEPTED, Answer::Nothing, change, plain, rmput)

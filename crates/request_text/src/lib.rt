@@ -125,7 +125,8 @@ fn word(t: Target, s: Scan, mem: &mut [u8], p: Packet, writes: bool) -> Response
         return kept(FAILED, EACCES);
     }
     let bytes = low_first(p.fourth);
-    let w = request_memory::put_window(t, s, mem, p.third, &bytes);
+    let at = (p.third - t.base) as usize;
+    let w = request_memory::put_window(mem, &sites, plain, at, &bytes);
     let change = w.change;
     let plain = w.plain;
     Response {

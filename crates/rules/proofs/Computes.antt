@@ -77,11 +77,13 @@ unfolding shownBy after shown shownWith answerBytes
     roomBy roomFor withElement heldOf entriesHeld placesOf draftHeld total depthAfter depthFrom depthOf wellBegun
     wellFormed
     joinOf isOutside wordOf escapes stackAfter evalFrom evaluateOf fetchOf
-    placeOf isProtected hasProtected forbids guarded namedBy isSite bytesAt plainRead writtenAt overwritten memAfter offsetOf holdsPlain plainAfter
+    placeOf isProtected hasProtected forbids guarded namedBy
+    isSite bytesAt plainRead writtenAt overwritten memAfter offsetOf holdsPlain plainAfter
     siteOver slotOf covered plainAt plainOf laidAt laidOver
     parseOf parsedBy counted unused lettered data4 kinds kindOf
     isOp bytesOf typeOf fieldsOf bytes4 bytes9 reasonName hexDigit hexBytes stateNames stateText addressText
-    textStepOf textRequest textBy textReplied textKind responseBy onPid onWord onWritable onFetched onRegister registerAt
+    textStepOf textRequest textBy textReplied textKind responseBy onPid onWord onWritable onFetched
+    onRegister registerAt
     registerWritten readOf candidateOf hexValue afterBlank isPacket textOf numberText digitsOf leadingZeros filledWith
     digitValue
     lowFirst ofLowFirst highFirst ofHighFirst wordAt every firstOf among byKeys sameList allZero tab codes padded

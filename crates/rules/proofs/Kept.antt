@@ -163,8 +163,9 @@ good-taken law (emptied n h) z = absurd (eqb-false n 0 h z)
 pub good-setup : (head : Head) → Lawful head → (s : Setup) → setupBy s .number ≡ 0
     → Good head (setupBy s .after .target) (s .mem)
 unfolding setupBy
-good-setup head law s = good-taken law (set-up (s .base) (s .size) (s .from) (s .to) (s .pids) (s .addresses) (s .count) (s .mem)
-    (s .regs))
+good-setup head law s =
+    good-taken law
+    (set-up (s .base) (s .size) (s .from) (s .to) (s .pids) (s .addresses) (s .count) (s .mem) (s .regs))
 
 -- an outside change where no trap lies leaves a record good
 pub good-change : {head : Head} (t : Target) (mem : List ℕ) (i byte : ℕ) → Good head t mem

@@ -84,7 +84,8 @@ pub data TextOutcome (head : Head) (w : World) (bytes reply : List ℕ) : Outcom
 
 -- ---- setup: taken, with what its rule tells, or refused and the record empty
 
-pub data SetUp (base size from to : ℕ) (pids addresses : List ℕ) (count : ℕ) (mem regs : List ℕ) : Outcome → Type 0 where
+pub data SetUp (base size from to : ℕ) (pids addresses : List ℕ) (count : ℕ) (mem regs : List ℕ)
+    : Outcome → Type 0 where
   taken : windowFit base size ≡ true → boundsFit base size from to ≡ true
       → processesFit (setupTarget base size from to pids addresses count .processes) count ≡ true
       → length mem ≡ size

@@ -44,7 +44,8 @@ use Rattle.rules.proofs.Requests.{RequestCase, RequestOutcome, serving,
 use Rattle.rules.proofs.Requests.{told, noted, halted, marked, started, cleared, begins, plants, removes, adds}
 use Rattle.rules.proofs.Texts.{TextCase, refusing, word-read, word-written, register-read, register-written}
 
-module _ {head : Head} (w : World) (g : GoodWorld head w) (i : ℕ) (p : isProtected (w .target .protected) i ≡ true) where
+module _ {head : Head} (w : World) (g : GoodWorld head w) (i : ℕ)
+    (p : isProtected (w .target .protected) i ≡ true) where
   abbrev t : Target
   t = w .target
 

@@ -126,4 +126,6 @@ left-setup (emptied n h) = record { memory = refl; area = refl; empty = λ z. re
 
 pub setups : (s : Setup) → SetupLeaves (s .mem) (s .regs) (setupBy s)
 unfolding setupBy
-setups s = left-setup (set-up (s .base) (s .size) (s .from) (s .to) (s .pids) (s .addresses) (s .count) (s .mem) (s .regs))
+setups s =
+    left-setup
+    (set-up (s .base) (s .size) (s .from) (s .to) (s .pids) (s .addresses) (s .count) (s .mem) (s .regs))

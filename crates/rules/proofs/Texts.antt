@@ -20,7 +20,8 @@ use Rattle.rules.specs.Record.{indexOf, isStopped}
 use Rattle.rules.specs.Breakpoint.{sites, plains}
 use Rattle.rules.specs.Request.{windowWritten}
 use Rattle.rules.specs.Text.{Response, completed, failedWith, esrch, eacces, efault, ebusy, einval, textKind}
-use Rattle.rules.specs.Text.{onFetched, onWord, onWritable, onRegister, registerAt, registerWritten, onPid, responseBy}
+use Rattle.rules.specs.Text.{onFetched, onWord, onWritable, onRegister, registerAt, registerWritten, onPid}
+use Rattle.rules.specs.Text.{responseBy}
 
 -- the plain word at an address
 abbrev pub fetched : Head → World → ℕ → Fetched

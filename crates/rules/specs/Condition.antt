@@ -68,8 +68,8 @@ siteFree h w val =
     let es = t .table .entries in
     isSite (width h) (t .base) (t .size) val && leb (length es) (breakpointAt es val)
 
--- "b val: nothing in hand, odd or outside site, site taken, or depth not 1: inval". 02, Five: "a b whose site has one, is
--- unsup ..; for b after taken, before depth"
+-- "b val: nothing in hand, odd or outside site, site taken, or depth not 1: inval". 02, Five: "a b whose site has one,
+-- is unsup ..; for b after taken, before depth"
 unfoldable pub setBreakpoint : Head → World → ℕ → Outcome
 setBreakpoint h w val =
     let t = w .target in

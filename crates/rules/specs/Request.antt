@@ -70,7 +70,7 @@ gotFrom h Nowhere w addr n = error Inval w
 unfoldable pub mget : Head → World → ℕ → ℕ → Outcome
 mget h w addr n =
     let t = w .target in
-    cond (eqb n 0) (replied (Rmget (data9Of [])) w) 
+    cond (eqb n 0) (replied (Rmget (data9Of [])) w)
     (gotFrom h (namedBy Read (t .protected) (t .base) (t .size) addr n) w addr n)
 
 -- ---- Tmput: "writes n bytes; a byte under a trap goes to the entry's plain bytes and the trap stays"
@@ -98,8 +98,8 @@ windowWritten h w addr bytes =
     world (withEntries t (withPlains (t .table .entries) (plainAfter (width h) (sites t) (plains t) at bytes)))
     (memAfter (width h) (sites t) (w .mem) at bytes) (w .regs)
 
--- "A write that touches 0 to 3 (register zero) is inval, before pid". 02, Five: "a Tmput touching a protected byte .. is
--- unsup, right after the address"
+-- "A write that touches 0 to 3 (register zero) is inval, before pid". 02, Five: "a Tmput touching a protected byte ..
+-- is unsup, right after the address"
 unfoldable pub putTo : Head → Place → World → ℕ → List ℕ → Outcome
 putTo h Registers w addr bytes =
     cond (leb addr 3) (error Inval w)

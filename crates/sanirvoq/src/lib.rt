@@ -6,6 +6,9 @@
 use frame::Reader;
 use frame_fields::FedFields;
 use image_diff::Comparison;
+use patch::Planning;
+use patch::Write;
+use patch_open::Checking;
 use step::StepKind;
 use target::Table;
 use target::Target;
@@ -17,11 +20,15 @@ use wire_fields::Found;
 ghost use mathlib.Core.List.{List, []};
 ghost use mathlib.Core.Path.{_≡_};
 ghost use Prim.Native.Nat.{ℕ};
+ghost use lib.ListN.{length};
 ghost use Rattle.wire_fields.specs.Fields.{writeFields, foundBy};
 ghost use Rattle.frame.specs.Reader.{fresh};
 ghost use Rattle.frame_fields.specs.Fields.{fedSeen, fedSeenOf};
 ghost use Rattle.frame_reply.specs.Reply.{replied, replyOf};
 ghost use Rattle.image_diff.specs.Answer.{compared, differencesOf};
+ghost use Rattle.memory.specs.Head.{house};
+ghost use Rattle.patch.specs.Answer.{planned};
+ghost use Rattle.patch_open.specs.Open.{planCall, checkCall};
 ghost use Rattle.capi_results.specs.Seen.{seen, seenOf, setupFrom};
 ghost use Rattle.capi_results.specs.Stepped.{Stepped};
 ghost use Rattle.rules.specs.Outcome.{world};
@@ -33,7 +40,13 @@ ghost use Rattle.wire.specs.Codec.{written, readOf};
 
 // A setup, of which bytes `from` to before `to` of the window, by address, are protected.
 #[no_mangle]
-pub extern "C" fn sanirvoq_step_setup(t: &mut Target, mem: &[u8], regs: &[u8], from: u64, to: u64) -> u32
+pub extern "C" fn sanirvoq_step_setup(
+    t: &mut Target,
+    mem: &[u8],
+    regs: &[u8],
+    from: u64,
+    to: u64,
+) -> u32
     ensures { λ r. ⌜ ((words : List ℕ)
         → seen r (viewOf (now (t .exit)) words) (now (mem .entry)) (now (regs .entry)) []
         ≡ seenOf (setupFrom (world (viewOf (now (t .entry)) words) (now (mem .entry)) (now (regs .entry)))
@@ -282,4 +295,46 @@ pub extern "C" fn sanirvoq_frame_reply(sequence: u32, message: &[u8], buffer: &m
         ≡ replyOf sequence (now (message .entry)) (now (buffer .entry)) ⌝ }
 {
     frame_reply::reply(sequence, message, buffer)
+}
+
+// Checks an offer of writes against a wanted image, over the plain window. It has the body of `patch_calls::check`, so
+// that its proof is that one's.
+#[no_mangle]
+pub extern "C" fn sanirvoq_patch_check(
+    t: &Target,
+    places: &[u32; Table::WORDS],
+    mem: &[u8],
+    regs: &[u8],
+    offer: &[Write],
+    wanted: &[u8],
+    room: &mut [u8],
+) -> Checking
+    ensures { λ r. ⌜ r ≡ checkCall house
+        (world (viewOf (now (t .entry)) (now (places .entry))) (now (mem .entry)) (now (regs .entry)))
+        (length (now (room .entry))) (now (wanted .entry)) (now (offer .entry)) ⌝ }
+{
+    let n = offer.len();
+    let p = patch_open::open(*t, places, mem, regs, wanted, room, n);
+    let v = patch_verdict::check(offer, room, wanted, p.base, p.from, p.to);
+    patch_open::answer(p.number, v)
+}
+
+// Plans the fewest writes that give a wanted image, at the front of a lent list. It has the body of
+// `patch_calls::plan`.
+#[no_mangle]
+pub extern "C" fn sanirvoq_patch_plan(
+    t: &Target,
+    places: &[u32; Table::WORDS],
+    mem: &[u8],
+    regs: &[u8],
+    wanted: &[u8],
+    room: &mut [u8],
+    list: &mut [Write],
+) -> Planning
+    ensures { λ r. ⌜ planned r (now (list .exit)) ≡ planCall house
+        (world (viewOf (now (t .entry)) (now (places .entry))) (now (mem .entry)) (now (regs .entry)))
+        (length (now (room .entry))) (now (wanted .entry)) (now (list .entry)) ⌝ }
+{
+    let p = patch_open::open(*t, places, mem, regs, wanted, room, 0);
+    patch_plan::plan(p.number, room, wanted, p.base, p.from, p.to, list)
 }

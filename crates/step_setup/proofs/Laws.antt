@@ -58,15 +58,16 @@ module _ (base size from to : ℕ) (pids addresses : List ℕ) (count : ℕ) (me
     unfolding setupOf setupTarget
     setup-processes h = rw (rw e at h, and-false)
 
-    module _ (h : windowFit base size ≡ true) (b : boundsFit base size from to ≡ true) (g : processesFit ps count ≡ true) where
+    module _ (h : windowFit base size ≡ true) (b : boundsFit base size from to ≡ true)
+        (g : processesFit ps count ≡ true) where
       pub setup-sizes : (eqb (length mem) size && eqb (length regs) (136 * count)) ≡ false
           → outcome 2 Nothing (world emptyTarget mem regs) [] ≡ setupOf base size from to pids addresses count mem regs
       unfolding setupOf setupTarget
       setup-sizes z = rw (h, b, rw e at g, z)
 
       pub setup-taken : (eqb (length mem) size && eqb (length regs) (136 * count)) ≡ true
-          → outcome 0 Nothing (world (setupTarget base size from to pids addresses count) mem regs) [] ≡ setupOf base size from to pids
-          addresses count mem regs
+          → outcome 0 Nothing (world (setupTarget base size from to pids addresses count) mem regs) []
+          ≡ setupOf base size from to pids addresses count mem regs
       unfolding setupOf setupTarget answered
       setup-taken z = rw (h, b, rw e at g, z)
 

@@ -23,7 +23,8 @@ use Rattle.target_protected.specs.Slots.{slotOff}
 pub none-off : (p : Stretch) (sites : List ℕ) → p .length ≡ 0 → every 8 (λ k. slotOff p (getD sites k 0)) ≡ true
 unfolding slotOff
 none-off p sites z =
-    every-all 8 (λ k. slotOff p (getD sites k 0)) (λ k h. rw (has-empty p (getD sites k 0) 2 z) (or-true (eqb (getD sites k 0) 1)))
+    every-all 8 (λ k. slotOff p (getD sites k 0))
+    (λ k h. rw (has-empty p (getD sites k 0) 2 z) (or-true (eqb (getD sites k 0) 1)))
 
 -- an entry by its slot: a used one stands at an even offset, which is no free one's
 pub slot-entry : (p : Stretch) (base : ℕ) (e : Entry)

@@ -17,7 +17,8 @@ use Rattle.rules.specs.Outcome.{world, Outcome}
 use Rattle.target.specs.View.{elementsOf, viewOf}
 use Rattle.rules.specs.Request.{putTo, mput}
 use Rattle.wire.specs.Message.{bytes4}
-use Rattle.request_memory.proofs.Laws.{refuses, put-wrote}
+use Rattle.target_fit.proofs.Slots.{roomy}
+use Rattle.request_memory.proofs.Laws.{refuses, put-wrote, wrote-is}
 use Rattle.request_memory.proofs.Laws.{put-none, put-to}
 use Rattle.request_memory.proofs.mput.Statement.{statement}
 use Rattle.request_memory.proofs.mput.Tie as tie
@@ -68,6 +69,10 @@ enum-told-2 c = search needs
 abbrev start : tie.After-enum-told2 → tie.Start
 start e = e .before .before .before .before .before .before .before .before
 
+-- the window is named, from where its table is taken
+abbrev named-at : tie.After-plain → tie.After-enum-told2
+named-at p = p .before .before .before
+
 -- the bytes lie in the window
 inside : (e : tie.After-enum-told2)
     → let a = start e .args in (a .t .base ≤ a .addr) × (a .addr + a .n ≤ a .t .base + a .t .size)
@@ -76,6 +81,12 @@ inside e =
     let a = start e .args in
     within-window (a .t .base) (a .t .size) (a .addr) (a .n)
     (write-window (a .t .protected) _ _ _ _ (sym (k .named-by .ensures) ∙ e .enum-told2 .given .1) .0)
+
+sub-at : tie.Need-sub-at
+sub-at c = inside (c .before) .0
+
+cast-at : tie.Need-cast-at
+cast-at c = search needs
 
 array-share-prefix-bytes-2 : tie.Need-array-share-prefix-bytes-2
 array-share-prefix-bytes-2 c = search needs
@@ -86,12 +97,12 @@ slice-aggregate-put-window c = sym (length-take-le _ _ (omega arith))
 put-window-requires : tie.Need-put-window-requires
 unfolding bytes4
 put-window-requires c κs =
-    let e = c .before .before in
+    let e = named-at (c .before .before .before) in
     let s = start e in
     let a = s .args in
     let h = inside e in
     let z = length-take-le (a .n) (bytes4 (a .d)) (s .pre .1) in
-    (s .pre .0 .1, h .0, omega arith)
+    omega (arith, h .0, h .1, z, s .pre .0 .1)
 
 of-requires : tie.Need-of-requires
 of-requires c κs = search needs
@@ -137,14 +148,18 @@ returns-3 : tie.Need-returns-3
 unfolding bytes4
 returns-3 c words f =
     let p = c .before .before .before .before in
-    let e = p .before .before .before in
+    let e = named-at (p .before .before .before .before) in
     let k = e .before .before in
-    let a = start e .args in
+    let s = start e in
+    let a = s .args in
+    let w = p .put-window .ensures in
     rw (c .of .ensures)
     (put-to (world (viewOf (a .t) words) (now (a .mem)) (now (a .regs))) (a .addr) (a .n) (a .d)
     (k .before .before .if1 .left) Window
     (sym (k .named-by .ensures) ∙ e .enum-told2 .given .1) _
-    (put-wrote _ _ _ _ _ (p .put-window .ensures words (now (a .regs)) f)
+    (put-wrote _ _ _ _ _
+    (wrote-is (a .t) words (now (a .mem)) (now (a .regs)) (a .addr) _ _ _ _ _
+    (roomy (a .t) _ (elementsOf words) (s .good .0)) (f .sites) (f .plain) (w .0) (w .1))
     (k .before .before .before .bytes-of .ensures)))
 
 returns-4 : tie.Need-returns-4
@@ -179,6 +194,8 @@ mput-spec =
     put-registers-requires
     answering-requires-2
     enum-told-2
+    sub-at
+    cast-at
     array-share-prefix-bytes-2
     slice-aggregate-put-window
     put-window-requires

@@ -8,7 +8,11 @@ use denote.Ref.{now}
 use lib.ListN.{length}
 use Rattle.rules.specs.Text.{completed}
 use Rattle.step_effect.specs.Change.{stored}
-use Rattle.request_text.proofs.Laws.{word-unaligned, word-outside, word-found, fetched-inside, writable-no, writable-yes}
+use Rattle.target.specs.View.{elementsOf}
+use Rattle.target_fit.proofs.Slots.{roomy}
+use Rattle.request_memory.proofs.Laws.{wrote-is}
+use Rattle.request_text.proofs.Laws.{word-unaligned, word-outside, word-found, fetched-inside, writable-no}
+use Rattle.request_text.proofs.Laws.{writable-yes}
 use Rattle.request_text.proofs.word.Statement.{statement}
 use Rattle.request_text.proofs.word.Tie as tie
 
@@ -103,15 +107,21 @@ returns-4 c words regs f =
 low-first-requires : tie.Need-low-first-requires
 low-first-requires c κs = search needs
 
+-- where its bytes are, from where it is to be written
+abbrev wrote-from : tie.After-bytes → tie.After-low-first
+wrote-from c = c .before .before .before .before .before
+
+sub-at : tie.Need-sub-at
+sub-at c = inside (left-at (c .before .before .before .before)) .0
+
+cast-at : tie.Need-cast-at
+cast-at c = search needs
+
 slice-aggregate-put-window : tie.Need-slice-aggregate-put-window
 slice-aggregate-put-window c = search needs
 
 put-window-requires : tie.Need-put-window-requires
-put-window-requires c κs =
-    let e = left-at (c .before .before .before .before) in
-    let s = begins (fetch-at e) in
-    let i = inside e in
-    (s .pre, i .0, omega (arith, s .pre, i .0, i .1))
+put-window-requires c κs = let i = inside (left-at (wrote-from c .before .before)) in omega (arith, i .1)
 
 same-length-4 : tie.Need-same-length-4
 same-length-4 c = search needs
@@ -119,14 +129,19 @@ same-length-4 c = search needs
 returns-5 : tie.Need-returns-5
 returns-5 c words regs f =
     let p = c .before .before .before in
-    let l = p .before .before .before in
+    let l = wrote-from (p .before) in
     let o = l .before in
     let h = o .before in
     let e = left-at h in
     let x = fetch-at e in
     let b = x .before .before .before .before .before .before in
-    rw (not-false (begins x .args .writes) (e .if2 .left), ← l .low-first .ensures)
-    (ap (completed _) (p .put-window .ensures words regs f)
+    let s = begins x in
+    let a = s .args in
+    let w = p .put-window .ensures in
+    rw (not-false (a .writes) (e .if2 .left), ← l .low-first .ensures)
+    (ap (completed _)
+    (wrote-is (a .t) words (now (a .mem)) regs (a .p .third) _ _ _ _ _
+    (roomy (a .t) _ (elementsOf words) (s .good .0)) (f .sites) (f .plain) (w .0) (w .1))
     ∙ writable-yes _ _ _ (sym (h .has-protected .ensures) ∙ o .if3 .left)
     ∙ word-found _ _ _ (b .if1 .left) _ _ (f .sites) (f .plain) _ (x .fetch .ensures) _
     (e .before .before .found .given .1))
@@ -152,6 +167,8 @@ word-spec =
     same-length-3
     returns-4
     low-first-requires
+    sub-at
+    cast-at
     slice-aggregate-put-window
     put-window-requires
     same-length-4

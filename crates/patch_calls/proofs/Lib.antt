@@ -1,0 +1,4 @@
+pub mod Opens
+pub mod Shares
+pub mod CheckWalk
+pub mod PlanWalk

@@ -1,0 +1,17 @@
+"""python3 -m sanirvoq"""
+
+from __future__ import annotations
+
+import sys
+
+
+def start() -> int:
+    try:
+        from .cli.main import entry
+    except ModuleNotFoundError as error:
+        print(f"{error}: apt-get install -y python3-serial python3-prompt-toolkit python3-rich gcc", file=sys.stderr)
+        return 5
+    return entry()
+
+
+sys.exit(start())
