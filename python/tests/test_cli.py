@@ -142,6 +142,19 @@ def test_a_refused_command_says_why_and_changes_nothing(line: str, capfd: pytest
     pair.head.close()
 
 
+@pytest.mark.parametrize("line", ["ps", "registers 7", "set a1 = 3 of 7", "wait 7"])
+def test_the_selected_process_stays_selected(line: str) -> None:
+    """For `text r`, which acts on the current process, whatever was asked of another one."""
+    pair = practised()
+    bench = Bench(Options(head="practice"), Output())
+    bench._head = pair.head
+    for before in ("stop 5", "stop 7", "select 5"):
+        assert perform(bench, before) == 0
+    assert perform(bench, line) == 0
+    assert (pair.kernel.stub.target.selected, pair.kernel.stub.target.current) == (1, 5)
+    pair.head.close()
+
+
 def test_files_that_cannot_be_written(command: Command) -> None:
     for option in ("--log", "--session"):
         ran = command("--head", "practice", option, "/no/such/folder/file", "read", "0x1000", "1")

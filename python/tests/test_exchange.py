@@ -81,6 +81,8 @@ def test_a_bad_packet_is_asked_for_again() -> None:
     line = BadLine(reply=lambda number, data: data[:20] + b"\x81" + data[21:] if number == 1 else data)
     head = head_over(line)
     assert head.read(0x1000, 4) == PLAIN[:4]
+    marks = [entry.split(" ", 1)[1] for entry in head.exchange._log.lines]  # type: ignore[attr-defined]
+    assert [mark[0] for mark in marks] == [">", "#", "#", ">", "<"] and "sent again" in marks[2]
     assert head.exchange.counts.bad == 1 and head.exchange.counts.again == 1
 
 

@@ -50,6 +50,7 @@ def test_a_breakpoint_survives_continue(pair: Pair) -> None:
                 break
         assert pair.head.register(7, NAMES.index("pc")) == 0x1008
         pair.head.start(7)
+        assert not pair.head.is_stopped(7)
 
 
 REFUSALS = {

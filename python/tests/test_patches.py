@@ -102,6 +102,17 @@ def test_across_a_breakpoint(pair: Pair, tmp_path: Path, capfd: pytest.CaptureFi
     assert result.data["sent"] is False and "nothing to send" in str(result.shown[0])
 
 
+def test_only_what_changes_under_a_trap_is_counted(pair: Pair, tmp_path: Path,
+                                                   capfd: pytest.CaptureFixture[str]) -> None:
+    bench = bench_over(pair)
+    bench.options.yes = True
+    execute(bench, "break 3 at 0x1008")
+    execute(bench, "break 4 at 0x1010")
+    image = image_file(tmp_path, PLAIN[:9] + b"\xaa" + PLAIN[10:20])
+    execute(bench, f"patch {image} at 0x1000")
+    assert "1 byte of it under breakpoint 3 (believed)" in capfd.readouterr().out
+
+
 def test_a_refusal_takes_the_patch_back(pair: Pair, tmp_path: Path) -> None:
     bench = bench_over(pair)
     bench.options.yes = True

@@ -34,6 +34,10 @@ pub enum Planned {
 /// The first place from one on where two images of one length differ; their length where they do not.
 #[inline(always)]
 fn differing(a: &[u8], b: &[u8], mut at: usize) -> usize {
+    // Where most bytes differ the next one does.
+    if a.get(at).is_some_and(|byte| *byte != b[at]) {
+        return at;
+    }
     while let (Some(x), Some(y)) = (a[at..].first_chunk::<8>(), b[at..].first_chunk::<8>()) {
         let marks = u64::from_le_bytes(*x) ^ u64::from_le_bytes(*y);
         if marks != 0 {
