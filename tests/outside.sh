@@ -146,6 +146,12 @@ text_step_vectors() {
         python3 tests/text_step_vectors.py valgrind --quiet --error-exitcode=9 "$logs/text_step_run"
 }
 
+# The calls of patches, which calls_main has not, through the archive.
+patch_run() {
+    c11 -O2 -Iinclude tests/patch_run.c "$library" -o "$logs/patch_run" &&
+        python3 tests/patch_calls.py valgrind --quiet --error-exitcode=9 "$logs/patch_run"
+}
+
 conditions_c() {
     c11 -O2 -Iinclude tests/conditions.c "$library" -o "$logs/conditions_c" && under_valgrind "$logs/conditions_c"
 }
@@ -206,6 +212,7 @@ check frame_vectors python3 tests/frame_vectors.py --check
 check program_vectors python3 tests/program_vectors.py --check
 check protected_calls calls_by_reference protected_calls
 check patch_calls calls_by_reference patch_calls
+check patch_run patch_run
 check compare_tests tests_of compare
 check compare crate run compare -- --seed 1 --steps 300000
 check compare_frames crate run compare --bin compare_frames -- --seed 1 --lines 100000 --damaged 100000

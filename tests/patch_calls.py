@@ -1,5 +1,5 @@
 #!/usr/bin/env python3
-"""Calls that check and plan patches, document 02, Twelve, for the program calls_main.
+"""Calls that check and plan patches, document 02, Twelve. The program calls_main has not got them yet.
 
     python3 tests/patch_calls.py                   say how many there are
     python3 tests/patch_calls.py PROGRAM ..        run them by a program and compare
@@ -8,8 +8,8 @@ Each call is a setup with a protected stretch and ordinary steps, as in tests/pr
 offer or one plan over the session's plain window. Written from documents 01 and 02, not from the crates; it shares
 nothing with the Rust code. The rule stands here twice: checked() and planned() go by the words of 02, and every
 directed call states its answer by hand; the script stops where the two differ. Random calls have the answers of the
-two functions, and every plan is checked. rust/reference/examples/patch_calls.rs answers the same calls by the
-independent stub in Rust.
+two functions, and every plan is checked. tests/patch_run.c answers the same calls through the archive, and
+rust/reference/examples/patch_calls.rs by the independent stub in Rust.
 
 How a call and its answer become bytes is in encoded(), check_bytes() and plan_bytes() alone.
 """
