@@ -42,10 +42,10 @@ crate() {
     cargo "$command" --release --offline --manifest-path "rust/$name/Cargo.toml" "$@"
 }
 
-# The tests of a crate, none of them ignored. Optimizing at link time takes most of a test's build and tests nothing
-# more.
+# tests_of CRATE [WORDS...]: its tests, none of them ignored. Optimizing at link time takes most of a test's build and
+# tests nothing more.
 tests_of() {
-    CARGO_PROFILE_RELEASE_LTO=off crate test "$1" | tee "$logs/tests_of_$1.txt" &&
+    CARGO_PROFILE_RELEASE_LTO=off crate test "$@" | tee "$logs/tests_of_$1.txt" &&
         ! grep -E '^test .* \.\.\. ignored' "$logs/tests_of_$1.txt"
 }
 
@@ -196,7 +196,7 @@ check rustfmt rustfmt
 check clippy clippy
 check rust_doc rust_doc
 check without_archive without_archive
-check archive_calls tests_of sanirvoq-sys
+check archive_calls tests_of sanirvoq-sys --features measure
 check wrapper tests_of sanirvoq
 check reference tests_of reference
 check steps tests_of steps

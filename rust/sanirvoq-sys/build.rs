@@ -4,10 +4,15 @@
 //! With no archive the crate still builds, documents and is checked, and says so by a warning; a
 //! program that calls the stub then does not link. The feature `stand-in` gives tests something to
 //! link that only says what is missing.
+//!
+//! The feature `measure` also links `libbench_read.a`, which `rt staticlib bench_read` writes, of the
+//! same folder. It does not build with either archive missing.
 
 use std::path::{Path, PathBuf};
 
 const ARCHIVE: &str = "libsanirvoq.a";
+/// That of the feature `measure`.
+const READS: &str = "libbench_read.a";
 
 fn main() {
     println!("cargo::rustc-check-cfg=cfg(stand_in)");
@@ -17,13 +22,18 @@ fn main() {
         Some(folder) => format!("{} is not there", folder.join(ARCHIVE).display()),
         None => "SANIRVOQ_LIB is empty".to_owned(),
     };
+    assert!(!feature("MEASURE"), "{missing}: run `rt staticlib sanirvoq` first");
     println!(
         "cargo::warning={missing}: what calls the stub does not link. Run \
          `rt staticlib sanirvoq`, or name the archive's folder by SANIRVOQ_LIB"
     );
-    if std::env::var_os("CARGO_FEATURE_STAND_IN").is_some() {
+    if feature("STAND_IN") {
         println!("cargo::rustc-cfg=stand_in");
     }
+}
+
+fn feature(name: &str) -> bool {
+    std::env::var_os(format!("CARGO_FEATURE_{name}")).is_some()
 }
 
 fn link(folder: &Path) {
@@ -31,6 +41,13 @@ fn link(folder: &Path) {
     println!("cargo::rustc-link-lib=static=sanirvoq");
     // For the build scripts of the crates that depend on this one.
     println!("cargo::metadata=archive={}", folder.join(ARCHIVE).display());
+    if feature("MEASURE") {
+        let reads = folder.join(READS);
+        let missing = "is not there: run `rt staticlib bench_read` first";
+        assert!(reads.is_file(), "{} {missing}", reads.display());
+        println!("cargo::rustc-link-lib=static=bench_read");
+        println!("cargo::rerun-if-changed={}", reads.display());
+    }
 }
 
 /// Where the archive is looked for.

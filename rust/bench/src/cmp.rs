@@ -1,8 +1,8 @@
 //! `cmp -l` on two files: the processor time of its process.
 
+use sanirvoq_sys::measure::time;
 use std::fs;
 use std::io;
-use std::mem::MaybeUninit;
 use std::path::{Path, PathBuf};
 use std::process::{Command, Stdio};
 
@@ -46,38 +46,6 @@ impl Drop for Files {
     }
 }
 
-#[repr(C)]
-struct Timeval {
-    seconds: i64,
-    microseconds: i64,
-}
-
-#[repr(C)]
-struct Rusage {
-    user: Timeval,
-    system: Timeval,
-    others: [i64; 14],
-}
-
-const RUSAGE_CHILDREN: i32 = -1;
-
-unsafe extern "C" {
-    fn getrusage(who: i32, usage: *mut Rusage) -> i32;
-}
-
-/// The processor time of all processes that were waited for, in nanoseconds.
-fn children() -> f64 {
-    let mut usage = MaybeUninit::<Rusage>::zeroed();
-    // SAFETY: the struct is Linux's rusage on x86-64, and is ours to write; any bytes are one.
-    let usage = unsafe {
-        assert_eq!(getrusage(RUSAGE_CHILDREN, usage.as_mut_ptr()), 0, "getrusage");
-        usage.assume_init()
-    };
-    let Rusage { user, system, others: _ } = usage;
-    (user.seconds + system.seconds) as f64 * 1e9
-        + (user.microseconds + system.microseconds) as f64 * 1e3
-}
-
 /// The processes of a round: most of what one takes is its start, which varies.
 const PROCESSES: u32 = 8;
 
@@ -96,9 +64,9 @@ pub fn timed(files: &Files, empty: &Files, rounds: usize) -> io::Result<Taken> {
         let mut sums = [0.0, 0.0];
         for _ in 0..PROCESSES {
             for (sum, files) in sums.iter_mut().zip([empty, files]) {
-                let start = children();
+                let start = time::children();
                 files.compare()?;
-                *sum += (children() - start) / f64::from(PROCESSES);
+                *sum += (time::children() - start) / f64::from(PROCESSES);
             }
         }
         taken.empty.push(sums[0]);

@@ -5,52 +5,14 @@ use crate::cases::{apart, clear, standing, together};
 use crate::side::{protected, BASE, PROCESSES};
 use crate::worker::Worker;
 use bench_stub::{Stub, BLOCK, ENTRIES, MESSAGE};
+use sanirvoq_sys::measure::read::{self, Plain, Sites, BYTES, FREE, ROOM};
 use std::hint::black_box;
 
-const BYTES: usize = 9;
 const WINDOW: u32 = 64;
 /// The way of the proved stub, as labels end with it.
 pub const STRAIGHT: &str = "straight";
-/// The site of a free slot: an odd one, which lies nowhere.
-const FREE: u32 = 1;
-
-type Sites = [u32; ENTRIES];
-/// Each slot has room for four plain bytes, of which the first two are its.
-const ROOM: usize = 4;
-
-type Plain = [u8; ROOM * ENTRIES];
-
-/// A part of the window, the slots, the part's offset, and where the bytes go.
-type Read = unsafe extern "C" fn(*const u8, usize, *const Sites, *const Plain, u32, *mut u8, usize);
-
-unsafe extern "C" {
-    fn sanirvoq_bench_read(
-        part: *const u8,
-        part_length: usize,
-        sites: *const Sites,
-        plain: *const Plain,
-        at: u32,
-        out: *mut u8,
-        out_length: usize,
-    );
-    fn sanirvoq_bench_read_by_bytes(
-        part: *const u8,
-        part_length: usize,
-        sites: *const Sites,
-        plain: *const Plain,
-        at: u32,
-        out: *mut u8,
-        out_length: usize,
-    );
-}
-
-/// Inlined where the function is a constant, so that the call is a direct one.
-#[inline(always)]
-fn proved(read: Read, part: &[u8], sites: &Sites, plain: &Plain, at: u32, out: &mut [u8]) {
-    // SAFETY: the pointers are of live slices and arrays, with the slices' lengths, and what is
-    // written is apart from what is read.
-    unsafe { read(part.as_ptr(), part.len(), sites, plain, at, out.as_mut_ptr(), out.len()) }
-}
+/// A way of the archive: a part of the window, the slots, the part's offset, and where the bytes go.
+type Read = fn(&[u8], &Sites, &Plain, u32, &mut [u8]);
 
 #[inline(never)]
 fn rust_stub(stub: &Stub, memory: &[u8], address: u32, out: &mut [u8]) -> Option<()> {
@@ -98,14 +60,14 @@ impl Scene {
     fn by(&self, read: Read, out: &mut [u8]) {
         let at = (self.address - BASE) as usize;
         let part = black_box(&self.memory[at..at + BYTES]);
-        proved(read, part, &self.sites, &self.plain, black_box(at as u32), out);
+        read(part, &self.sites, &self.plain, black_box(at as u32), out);
     }
 
     /// Each way of reading, as so many turns. A copy is none where the stretch meets a site.
     fn workers(&self) -> Vec<Worker<'_>> {
         let mut list = vec![
-            self.worker(STRAIGHT, |scene, out| scene.by(sanirvoq_bench_read, out)),
-            self.worker("byte by byte", |scene, out| scene.by(sanirvoq_bench_read_by_bytes, out)),
+            self.worker(STRAIGHT, |scene, out| scene.by(read::straight, out)),
+            self.worker("byte by byte", |scene, out| scene.by(read::by_bytes, out)),
             self.worker("Rust stub", |scene, out| {
                 let done = rust_stub(&scene.stub, &scene.memory, black_box(scene.address), out);
                 done.expect("in the window")
@@ -159,58 +121,6 @@ impl Reads {
 #[cfg(test)]
 mod tests {
     use super::*;
-
-    /// Numbers for the test below: xorshift.
-    struct Random(u64);
-
-    impl Random {
-        fn below(&mut self, bound: u32) -> u32 {
-            self.0 ^= self.0 << 13;
-            self.0 ^= self.0 >> 7;
-            self.0 ^= self.0 << 17;
-            (self.0 >> 32) as u32 % bound
-        }
-
-        fn bytes<const N: usize>(&mut self) -> [u8; N] {
-            std::array::from_fn(|_| self.below(256) as u8)
-        }
-    }
-
-    /// The plain bytes by the rule's words: the first slot whose trap is over a byte has it.
-    fn expected(part: &[u8], sites: &Sites, plain: &Plain, at: u32) -> [u8; BYTES] {
-        std::array::from_fn(|j| {
-            let offset = at + j as u32;
-            let over = |site: &u32| *site == offset - offset % 2;
-            let Some(byte) = part.get(j) else { return 0 };
-            sites.iter().position(over).map_or(*byte, |k| plain[ROOM * k + (offset % 2) as usize])
-        })
-    }
-
-    #[test]
-    fn both_ways_read_the_plain_bytes() {
-        let mut random = Random(43);
-        let mut met = [0; 2];
-        for _ in 0..100_000 {
-            let at = random.below(40);
-            let memory: [u8; 12] = random.bytes();
-            let part = &memory[..random.below(13) as usize];
-            let plain: Plain = random.bytes();
-            let sites: Sites = std::array::from_fn(|_| match random.below(3) {
-                0 => FREE,
-                _ => 2 * random.below(40),
-            });
-            let [mut straight, mut by_bytes] = [[0xee; BYTES]; 2];
-            proved(sanirvoq_bench_read, part, &sites, &plain, at, &mut straight);
-            proved(sanirvoq_bench_read_by_bytes, part, &sites, &plain, at, &mut by_bytes);
-            let expected = expected(part, &sites, &plain, at);
-            assert_eq!(straight, expected, "{part:?} at {at}, {sites:?}, {plain:?}");
-            assert_eq!(by_bytes, expected, "{part:?} at {at}, {sites:?}, {plain:?}");
-            let end = at + part.len().min(BYTES) as u32;
-            let meets = sites.iter().any(|site| *site != FREE && *site < end && at < *site + 2);
-            met[usize::from(meets && at < end)] += 1;
-        }
-        assert!(met.iter().all(|&count| count > 10_000), "no site and a site met: {met:?}");
-    }
 
     #[test]
     fn a_copy_outside_the_window_is_refused() {

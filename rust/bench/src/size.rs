@@ -5,7 +5,7 @@ use std::process::Command;
 
 const ARCHIVE: &str = "libsanirvoq.a";
 
-/// The folder of the archive that was linked: `rust/sanirvoq/build.rs` chooses it in the same way.
+/// The folder of the archive that was linked: `rust/sanirvoq-sys/build.rs` chooses it in the same way.
 fn folder() -> PathBuf {
     match option_env!("SANIRVOQ_LIB") {
         Some(folder) => PathBuf::from(folder),

@@ -6,6 +6,7 @@ use crate::rust_stub::RustStub;
 use crate::side::Side;
 use crate::work::{run, Work};
 use crate::worker::Worker;
+use sanirvoq_sys::measure::time;
 
 pub struct Plan {
     pub rounds: usize,
@@ -36,34 +37,12 @@ pub fn median_ratio(over: &[f64], under: &[f64]) -> f64 {
     median(&ratios)
 }
 
-#[repr(C)]
-struct Timespec {
-    seconds: i64,
-    nanoseconds: i64,
-}
-
-const CLOCK_THREAD_CPUTIME_ID: i32 = 3;
-
-unsafe extern "C" {
-    fn clock_gettime(clock: i32, time: *mut Timespec) -> i32;
-}
-
-/// The processor time of this thread in nanoseconds. The machine may be shared: what others run
-/// meanwhile is not ours.
-fn now() -> u64 {
-    let mut time = Timespec { seconds: 0, nanoseconds: 0 };
-    // SAFETY: the struct is Linux's timespec on x86-64, and is ours to write.
-    let failed = unsafe { clock_gettime(CLOCK_THREAD_CPUTIME_ID, &mut time) };
-    assert_eq!(failed, 0, "this system has no clock of a thread's processor time");
-    time.seconds as u64 * 1_000_000_000 + time.nanoseconds as u64
-}
-
 /// Times a batch; one that is too short is done again with twice the turns. What a turn took.
 fn timed(turns: &mut u64, least: u64, mut batch: impl FnMut(u64)) -> f64 {
     loop {
-        let start = now();
+        let start = time::thread();
         batch(*turns);
-        let taken = now() - start;
+        let taken = time::thread() - start;
         if taken >= least {
             return taken as f64 / *turns as f64;
         }

@@ -6,12 +6,20 @@
 //! crate; `sanirvoq` above it answers with enums in the place of numbers.
 //!
 //! `build.rs` says where the archive is looked for, and what is so where there is none.
+//!
+//! With the feature `measure`, which is for the benchmark, the module `measure` has the unsafe code that
+//! measures: clocks, the painted stack and reads by themselves.
 
 #![no_std]
 #![deny(missing_debug_implementations, missing_docs, unsafe_op_in_unsafe_fn)]
 
+#[cfg(feature = "measure")]
+extern crate std;
+
 pub mod call;
 pub mod ffi;
+#[cfg(feature = "measure")]
+pub mod measure;
 mod places;
 mod words;
 
