@@ -61,7 +61,7 @@ fn replied(e: Effect, reply: &mut [u8]) -> Effect
     ensures { λ r. ⌜ (r ≡ e) × (now (reply .exit) ≡ e .reply) ⌝ }
 {
     let bytes = e.reply;
-    common::copy(reply, &bytes);
+    common::put(reply, 0, &bytes);
     e
 }
 

@@ -172,13 +172,17 @@ pub fn marks_fit(ps: [Process; Target::PROCESSES], count: u32) -> bool
     true
 }
 
+// Most have no stop wanted: this is tested first.
 fn mark_fit(state: u8, wanted: u8) -> bool
     ensures { λ r. ⌜ r ≡ markFit state wanted ⌝ }
 {
-    if state == Process::STOPPED {
-        return wanted == 0;
+    if wanted == 0 {
+        return true;
     }
-    wanted <= 1
+    if wanted != 1 {
+        return false;
+    }
+    state != Process::STOPPED
 }
 
 // The current process is none or a listed pid.

@@ -36,7 +36,7 @@ use Rattle.target_fit.specs.declared.Scan.{Scan}
 use Rattle.target_fit.proofs.Laws.{answered-yes}
 use Rattle.target_fit.proofs.Slots.{ids-tab, sites-tab, Roomy, plainByte, plains-tab}
 use Rattle.target_fit.proofs.View.{count-used, end-held}
-use Rattle.target_scan.specs.Parts.{usedTest, scanEntries}
+use Rattle.target_scan.specs.Parts.{usedTest, gathered, scanEntries}
 
 -- ---- slots: the tests of an entry
 
@@ -157,11 +157,13 @@ module _ {A : Type 0} (f g : ℕ → A) (n m : ℕ) {l : List A} (e : l ≡ fill
 abbrev tableTest : ℕ → List ℕ → List Stored → List Element → Bool
 tableTest base mem es pool = entriesFit house base mem (viewEntries es pool) && leb (heldBy es 0) 128
 
--- a failed test: the arrays are of free entries
-pub unfit-entries : (base : ℕ) (mem : List ℕ) (es : List Stored) (pool : List Element) (r : Scan) → r ≡ unfitScan
-    → tableTest base mem es pool ≡ false → r ≡ scanEntries base mem es pool
+-- a failed test: the entries are not fit
+pub entries-unfit : (base : ℕ) (mem : List ℕ) (es : List Stored) (pool : List Element) (fit : Bool) → fit ≡ false
+    → tableTest base mem es pool ≡ false
+    → (fit ≡ scanEntries base mem es pool .fit)
+    × (fit ≡ true → (s : Scan) → s ≡ scanEntries base mem es pool)
 unfolding scanEntries
-unfit-entries base mem es pool r h e = rw e h
+entries-unfit base mem es pool fit h e = (rw e h, λ t s. true-or-false (sym h ∙ t))
 
 -- before entry i: the arrays hold the entries passed, free slots after them, and each entry passed is fit
 pub record Scanning (base : ℕ) (mem : List ℕ) (es : List Stored) (pool : List Element) (ids sites plain : List ℕ)
@@ -206,8 +208,7 @@ module _ {base : ℕ} {mem : List ℕ} {es : List Stored} {pool : List Element} 
 
   -- every entry is passed: the arrays are the table's
   pub scan-all : 8 ≤ i
-      → record { fit = true; held = held; depth = 0; ids = ids; sites = sites; plain = plain }
-      ≡ scanEntries base mem es pool
+      → gathered held ids sites plain ≡ scanEntries base mem es pool
   unfolding scanEntries entriesFit
   scan-all h =
       let z : length seen ≡ 8 = length-view es pool ∙ p .size in

@@ -23,19 +23,17 @@ usedTest base mem e from pool =
     eqb (e .used) 1 && siteFit house base mem (e .site) && leb (e .count) maxElements
     && leb (from + e .count) maxPlaces && eqb (length its) (e .count) && wellFormed its
 
+-- a scan of the entries that are fit, with the condition in hand left out
+abbrev pub gathered : ℕ → List ℕ → List ℕ → List ℕ → Scan
+gathered held ids sites plain =
+    record { fit = true; held = held; depth = 0; ids = ids; sites = sites; plain = plain }
+
 -- the entries over the pool, at most 128 places in all; the condition in hand left out
 unfoldable pub scanEntries : ℕ → List ℕ → List Entry → List Element → Scan
 scanEntries base mem es pool =
     let seen = viewEntries es pool in
     cond (entriesFit house base mem seen && leb (heldBy es 0) maxPlaces)
-    (record {
-      fit = true;
-      held = heldBy es 0;
-      depth = 0;
-      ids = idsOf seen;
-      sites = sitesOf base seen;
-      plain = plainsOf seen;
-    })
+    (gathered (heldBy es 0) (idsOf seen) (sitesOf base seen) (plainsOf seen))
     unfitScan
 
 -- the scan with the places held and the depth of the condition in hand
@@ -49,6 +47,10 @@ handTest d its ids held =
     eqb (d .active) 1 && eqb (firstOf (eqb (d .id)) ids) maxEntries && ltb (firstOf (eqb freeId) ids) maxEntries
     && leb (d .count) maxElements && leb (held + d .count) maxPlaces && eqb (length its) (d .count)
     && ltb 0 (depthOf its)
+
+-- the depth of a condition in hand that is fit, 1 where nothing is in hand; else 0
+unfoldable pub handDepth : Draft → List Element → List ℕ → ℕ → ℕ
+handDepth d its ids held = cond (eqb (d .active) 0) 1 (cond (handTest d its ids held) (depthOf its) 0)
 
 -- with the condition in hand, which starts where the entries' places end
 unfoldable pub scanDraft : Scan → Draft → List Element → Scan

@@ -8,17 +8,19 @@ use target::Table;
 use target::Target;
 use target_fit::Scan;
 ghost use mathlib.Core.Path.{_≡_};
-ghost use mathlib.Core.Bool.{not, _&&_};
+ghost use mathlib.Core.Bool.{true, false, not, _&&_};
 ghost use Prim.Native.Nat.{ℕ, _%_, _<_, _≤_};
 ghost use lib.Dec.{eqb, ltb};
-ghost use lib.ListN.{getD};
+ghost use lib.ListN.{getD, take, drop, replicate};
 ghost use Rattle.common.specs.Every.{every};
 ghost use Rattle.common.specs.First.{firstOf};
-ghost use Rattle.target_fit.specs.Fit.{siteFit, fitOf, unfitScan, scanOf};
-ghost use Rattle.target_scan.specs.Parts.{usedTest, scanEntries, scanDraft};
+ghost use Rattle.target_fit.specs.Arrays.{freeId};
+ghost use Rattle.target_fit.specs.Fit.{windowFit, processesFit, marksFit, currentFit, siteFit, fitOf, unfitScan, scanOf};
+ghost use Rattle.target_scan.specs.Parts.{usedTest, gathered, scanEntries, handDepth};
 ghost use Rattle.memory.specs.Head.{house};
-ghost use Rattle.target.specs.Limits.{maxEntries, maxPlaces};
-ghost use Rattle.target.specs.View.{elementsOf, viewTable, viewOf};
+ghost use Rattle.memory.specs.Overlay.{freeSite};
+ghost use Rattle.target.specs.Limits.{maxEntries, maxPlain, maxPlaces};
+ghost use Rattle.target.specs.View.{draftSize, elementsOf, viewTable, viewOf};
 
 // A site is even, in the window, and holds the trap.
 fn site_fit(mem: &[u8], base: u32, site: u32) -> bool
@@ -118,15 +120,41 @@ fn unfit() -> Scan
     }
 }
 
-// Tests the entries, and gives the table as arrays, without the condition in hand. The window begins even, so no used
-// entry has a free one's offset.
-fn scan_table(mem: &[u8], base: u32, t: Table, places: &[u32; Table::WORDS]) -> Scan
-    requires { ⌜ base % 2 ≡ 0 ⌝ }
-    ensures { λ r. ⌜ r ≡ scanEntries base (now (mem .entry)) (t .entries) (elementsOf (now (places .entry))) ⌝ }
+// What the walk over the entries finds beside the arrays: whether they are fit and, where they are, how many places they
+// hold.
+struct Entries {
+    fit: bool,
+    held: usize,
+}
+
+fn unfit_entries() -> Entries
+    ensures { λ r. ⌜ r .fit ≡ false ⌝ }
 {
-    let mut ids: [u32; Table::ENTRIES] = [Scan::FREE_ID; Table::ENTRIES];
-    let mut sites: [u32; Table::ENTRIES] = [Scan::FREE_SITE; Table::ENTRIES];
-    let mut plain: [u8; Table::PLAIN] = [0; Table::PLAIN];
+    Entries {
+        fit: false,
+        held: 0,
+    }
+}
+
+// Tests the entries, and fills the arrays, which are those of free entries before: they are lent, because an array that
+// is given back is copied once more for each function that it goes through. The window begins even, so no used entry
+// has a free one's offset.
+fn scan_table(
+    mem: &[u8],
+    base: u32,
+    t: Table,
+    places: &[u32; Table::WORDS],
+    ids: &mut [u32; Table::ENTRIES],
+    sites: &mut [u32; Table::ENTRIES],
+    plain: &mut [u8; Table::PLAIN],
+) -> Entries
+    requires { ⌜ base % 2 ≡ 0 ⌝ }
+    requires { ⌜ (now ids ≡ replicate maxEntries freeId) × (now sites ≡ replicate maxEntries freeSite)
+        × (now plain ≡ replicate maxPlain 0) ⌝ }
+    ensures { λ r. ⌜ (r .fit ≡ scanEntries base (now (mem .entry)) (t .entries) (elementsOf (now (places .entry))) .fit)
+        × (r .fit ≡ true → gathered (r .held) (now (ids .exit)) (now (sites .exit)) (now (plain .exit))
+        ≡ scanEntries base (now (mem .entry)) (t .entries) (elementsOf (now (places .entry)))) ⌝ }
+{
     // 1 where an id (places 0 to 31) or an offset (32 to 62) of an entry passed falls. Equal ones fall on one place, so
     // where both places of an entry are 0 it need not be compared with those before it. 31 is prime: sites that lie a
     // power of two apart fall on different places.
@@ -142,14 +170,14 @@ fn scan_table(mem: &[u8], base: u32, t: Table, places: &[u32; Table::WORDS]) -> 
         plain[slot + 3] = e.plain[3];
         if e.used != 0 {
             if !used_fit(mem, base, places, e, held) {
-                return unfit();
+                return unfit_entries();
             }
             let id = e.id as u32;
             let at = e.site - base;
             let id_place = (id % 32) as usize;
             let site_place = (at / 2 % 31 + 32) as usize;
-            if !apart(noted[id_place], noted[site_place], &ids, &sites, i, id, at) {
-                return unfit();
+            if !apart(noted[id_place], noted[site_place], ids, sites, i, id, at) {
+                return unfit_entries();
             }
             noted[id_place] = 1;
             noted[site_place] = 1;
@@ -159,14 +187,7 @@ fn scan_table(mem: &[u8], base: u32, t: Table, places: &[u32; Table::WORDS]) -> 
         }
         i += 1;
     }
-    Scan {
-        fit: true,
-        held,
-        depth: 0,
-        ids: ids,
-        sites: sites,
-        plain: plain,
-    }
+    Entries { fit: true, held }
 }
 
 // The index of the breakpoint with an id, or 8.
@@ -187,7 +208,7 @@ pub fn entry_of(ids: &[u32; Table::ENTRIES], id: u32) -> usize
     index
 }
 
-// A condition in hand has an unused id and a free entry waiting. Its elements are tested by `scan_draft`.
+// A condition in hand has an unused id and a free entry waiting. Its elements are tested by `draft_depth`.
 fn draft_fit(d: Draft, ids: &[u32; Table::ENTRIES], free: usize) -> bool
     ensures { λ r. ⌜ r ≡ (eqb (d .active) 1 && eqb (firstOf (eqb (d .id)) (now (ids .entry))) maxEntries
         && ltb free maxEntries) ⌝ }
@@ -201,39 +222,70 @@ fn draft_fit(d: Draft, ids: &[u32; Table::ENTRIES], free: usize) -> bool
     free < Table::ENTRIES
 }
 
-// The scan of a fit table with what the condition in hand, which starts where the table's places end, adds to it.
-fn scan_draft(found: Scan, d: Draft, places: &[u32; Table::WORDS]) -> Scan
-    requires { ⌜ found .held ≤ maxPlaces ⌝ }
-    ensures { λ r. ⌜ r ≡ scanDraft found d (elementsOf (now (places .entry))) ⌝ }
+// The depth of the condition in hand, which starts where the table's places end, 1 where nothing is in hand; 0 where it
+// is not fit.
+fn draft_depth(
+    held: usize,
+    d: Draft,
+    ids: &[u32; Table::ENTRIES],
+    places: &[u32; Table::WORDS],
+) -> u32
+    requires { ⌜ held ≤ maxPlaces ⌝ }
+    ensures { λ r. ⌜ r ≡ handDepth d (take (d .count) (drop held (elementsOf (now (places .entry)))))
+        (now (ids .entry)) held ⌝ }
 {
-    let ids = found.ids;
-    let sites = found.sites;
-    let plain = found.plain;
     if d.active == 0 {
-        return Scan {
-            fit: true,
-            held: found.held,
-            depth: 1,
-            ids: ids,
-            sites: sites,
-            plain: plain,
-        };
+        return 1;
     }
-    if !draft_fit(d, &ids, entry_of(&ids, Scan::FREE_ID)) {
-        return unfit();
+    if !draft_fit(d, ids, entry_of(ids, Scan::FREE_ID)) {
+        return 0;
     }
     let count = d.count as usize;
     if Entry::ELEMENTS < count {
+        return 0;
+    }
+    if Table::PLACES < held + count {
+        return 0;
+    }
+    condition::depth_of(places, held, count)
+}
+
+// How many places the condition in hand holds.
+fn draft_places(d: Draft) -> usize
+    ensures { λ r. ⌜ (r ≡ draftSize d) × (r ≤ 255) ⌝ }
+{
+    if d.active == 0 {
+        return 0;
+    }
+    d.count as usize
+}
+
+// The table of a record whose window and processes are fit, by the same rule as `check`.
+fn check_table(t: Target, places: &[u32; Table::WORDS], mem: &[u8]) -> Scan
+    requires { ⌜ windowFit (t .base) (t .size) ≡ true ⌝ }
+    ensures { λ r. ⌜ (processesFit (t .processes) (t .count) ≡ true → marksFit (t .processes) (t .count) ≡ true
+        → currentFit (t .selected) (t .current) (t .processes) (t .count) ≡ true
+        → r ≡ scanOf (fitOf house (viewOf t (now (places .entry))) (now (mem .entry))) (t .base)
+        (viewTable (t .table) (elementsOf (now (places .entry))))) ⌝ }
+{
+    let table = t.table;
+    let mut ids: [u32; Table::ENTRIES] = [Scan::FREE_ID; Table::ENTRIES];
+    let mut sites: [u32; Table::ENTRIES] = [Scan::FREE_SITE; Table::ENTRIES];
+    let mut plain: [u8; Table::PLAIN] = [0; Table::PLAIN];
+    let found = scan_table(mem, t.base, table, places, &mut ids, &mut sites, &mut plain);
+    if !found.fit {
         return unfit();
     }
-    let held = found.held + count;
-    if Table::PLACES < held {
+    let protected = t.protected;
+    if !target_protected::protected_fit(t.base, t.size, protected, &sites) {
         return unfit();
     }
-    let depth = condition::depth_of(places, found.held, count);
+    let d = table.draft;
+    let depth = draft_depth(found.held, d, &ids, places);
     if depth == 0 {
         return unfit();
     }
+    let held = found.held + draft_places(d);
     Scan {
         fit: true,
         held,
@@ -264,16 +316,5 @@ pub fn check(t: Target, places: &[u32; Table::WORDS], mem: &[u8]) -> Scan
     if !target_fit::current_fit(t.selected, t.current, ps, count) {
         return unfit();
     }
-    let table = t.table;
-    let found = scan_table(mem, t.base, table, places);
-    if !found.fit {
-        return unfit();
-    }
-    let protected = t.protected;
-    let sites = found.sites;
-    if !target_protected::protected_fit(t.base, t.size, protected, &sites) {
-        return unfit();
-    }
-    let draft = table.draft;
-    scan_draft(found, draft, places)
+    check_table(t, places, mem)
 }

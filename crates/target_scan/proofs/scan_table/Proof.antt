@@ -2,12 +2,14 @@
 -- place i, free slots after them, and each entry before it is fit; `Noted`: the set notes them. Assumes nothing.
 use Prim.Native.Nat.{_-_}
 use mathlib.Core.Logic.{⊎-elim}
+use mathlib.Core.Path.{ap}
 use native.Mathlib.Omega.{arith}
 use borrow.Author.Needs.{needs}
 use Rattle.target.specs.View.{elementsOf}
+use Rattle.target_fit.specs.declared.Scan.{Scan}
 use Rattle.target.proofs.Shape.{table-entries, table-entry, entry-shape}
 use Rattle.target_scan.proofs.Laws.{
-  unfit-entries,
+  entries-unfit,
   Scanning,
   scan-none,
   scan-free,
@@ -25,18 +27,19 @@ use Rattle.target_scan.proofs.scan_table.Statement.{statement}
 use Rattle.target_scan.proofs.scan_table.Tie as tie
 
 abbrev Inv-loop : tie.InvT-loop
-Inv-loop mem base places t ids₀ sites₀ plain₀ noted₀ held₀ i₀ ids sites plain noted held i =
+Inv-loop mem base places ids₀ sites₀ plain₀ t noted₀ held₀ i₀ ids sites plain noted held i =
     Scanning base mem (t .entries) (elementsOf places) ids sites plain held i × Noted noted ids sites i
 
 abbrev μ-loop : tie.MeasureT-loop
-μ-loop mem base places t ids₀ sites₀ plain₀ noted₀ held₀ i₀ ids sites plain noted held i = 8 - i
+μ-loop mem base places ids₀ sites₀ plain₀ t noted₀ held₀ i₀ ids sites plain noted held i = 8 - i
 
 loop-holds : tie.Need-loop-holds Inv-loop μ-loop
 loop-holds c =
     let o = c .before in
     let t = o .args .t3 in
-    let g = o .good .1 .1 .0 in (
-      scan-none _ _ _ _ (o .pre) (table-entries t _ g) (λ k h. entry-shape _ _ (table-entry t _ k g h .1)),
+    let g = o .good .1 .1 .0 in
+    rw (o .pre .1 .0, o .pre .1 .1, o .pre .1 .2) (
+      scan-none _ _ _ _ (o .pre .0) (table-entries t _ g) (λ k h. entry-shape _ _ (table-entry t _ k g h .1)),
       noted-none _ _,
     )
 
@@ -52,8 +55,8 @@ mul-slot c = search needs
 element-copy-out-plain : tie.Need-element-copy-out-plain Inv-loop μ-loop
 element-copy-out-plain c = search needs
 
-array-write-plain : tie.Need-array-write-plain Inv-loop μ-loop
-array-write-plain c = search needs
+element-write-plain : tie.Need-element-write-plain Inv-loop μ-loop
+element-write-plain c = search needs
 
 element-copy-out-plain-2 : tie.Need-element-copy-out-plain-2 Inv-loop μ-loop
 element-copy-out-plain-2 c = search needs
@@ -61,8 +64,8 @@ element-copy-out-plain-2 c = search needs
 add-plain : tie.Need-add-plain Inv-loop μ-loop
 add-plain c = search needs
 
-array-write-plain-2 : tie.Need-array-write-plain-2 Inv-loop μ-loop
-array-write-plain-2 c = search needs
+element-write-plain-2 : tie.Need-element-write-plain-2 Inv-loop μ-loop
+element-write-plain-2 c = search needs
 
 element-copy-out-plain-3 : tie.Need-element-copy-out-plain-3 Inv-loop μ-loop
 element-copy-out-plain-3 c = search needs
@@ -70,8 +73,8 @@ element-copy-out-plain-3 c = search needs
 add-plain-2 : tie.Need-add-plain-2 Inv-loop μ-loop
 add-plain-2 c = search needs
 
-array-write-plain-3 : tie.Need-array-write-plain-3 Inv-loop μ-loop
-array-write-plain-3 c = search needs
+element-write-plain-3 : tie.Need-element-write-plain-3 Inv-loop μ-loop
+element-write-plain-3 c = search needs
 
 element-copy-out-plain-4 : tie.Need-element-copy-out-plain-4 Inv-loop μ-loop
 element-copy-out-plain-4 c = search needs
@@ -79,23 +82,24 @@ element-copy-out-plain-4 c = search needs
 add-plain-3 : tie.Need-add-plain-3 Inv-loop μ-loop
 add-plain-3 c = search needs
 
-array-write-plain-4 : tie.Need-array-write-plain-4 Inv-loop μ-loop
-array-write-plain-4 c = search needs
+element-write-plain-4 : tie.Need-element-write-plain-4 Inv-loop μ-loop
+element-write-plain-4 c = search needs
 
 used-fit-requires : tie.Need-used-fit-requires Inv-loop μ-loop
 used-fit-requires c κs = search needs
 
-unfit-requires : tie.Need-unfit-requires Inv-loop μ-loop
-unfit-requires c κs = search needs
+unfit-entries-requires : tie.Need-unfit-entries-requires Inv-loop μ-loop
+unfit-entries-requires c κs = search needs
 
 returns : tie.Need-returns Inv-loop μ-loop
 returns c =
     let f = c .before .before in
     let b = f .before in
     let o = b .before .before .before .before .before .before in
-    unfit-entries _ _ _ _ _ (c .unfit .ensures)
+    let u = entries-unfit _ _ _ _ _ (c .unfit-entries .ensures)
     (scan-unfit (o .before .loop .inv .0) (o .loop-test .taken) (b .if1 .taken) _ (f .used-fit .ensures)
-    (c .before .if2 .taken))
+    (c .before .if2 .taken)) in
+    (u .0, λ t. u .1 t _)
 
 cast-id : tie.Need-cast-id Inv-loop μ-loop
 cast-id c =
@@ -137,8 +141,8 @@ apart-requires c κs =
       noted-site (inv .1) _ (site-even (inv .0) h (b .if1 .taken) _ (f .used-fit .ensures) (d .if2 .left)),
     )
 
-unfit-requires-2 : tie.Need-unfit-requires-2 Inv-loop μ-loop
-unfit-requires-2 c κs = search needs
+unfit-entries-requires-2 : tie.Need-unfit-entries-requires-2 Inv-loop μ-loop
+unfit-entries-requires-2 c κs = search needs
 
 returns-2 : tie.Need-returns-2 Inv-loop μ-loop
 returns-2 c =
@@ -147,9 +151,10 @@ returns-2 c =
     let f = d .before in
     let b = f .before in
     let o = b .before .before .before .before .before .before in
-    unfit-entries _ _ _ _ _ (c .unfit2 .ensures)
+    let u = entries-unfit _ _ _ _ _ (c .unfit-entries2 .ensures)
     (scan-clash (o .before .loop .inv .0) (o .loop-test .taken) (b .if1 .taken) _ (f .used-fit .ensures)
-    (d .if2 .left) _ (g .apart .ensures) (c .before .if3 .taken))
+    (d .if2 .left) _ (g .apart .ensures) (c .before .if3 .taken)) in
+    (u .0, λ t. u .1 t _)
 
 array-write-noted : tie.Need-array-write-noted Inv-loop μ-loop
 array-write-noted c = search needs
@@ -160,14 +165,14 @@ array-write-noted-2 c = search needs
 mul-ids : tie.Need-mul-ids Inv-loop μ-loop
 mul-ids c = search needs
 
-array-write-ids : tie.Need-array-write-ids Inv-loop μ-loop
-array-write-ids c = search needs
+element-write-ids : tie.Need-element-write-ids Inv-loop μ-loop
+element-write-ids c = search needs
 
 mul-sites : tie.Need-mul-sites Inv-loop μ-loop
 mul-sites c = search needs
 
-array-write-sites : tie.Need-array-write-sites Inv-loop μ-loop
-array-write-sites c = search needs
+element-write-sites : tie.Need-element-write-sites Inv-loop μ-loop
+element-write-sites c = search needs
 
 -- the entry whose places are counted
 abbrev counted : tie.Else3 Inv-loop μ-loop → tie.In-loop Inv-loop μ-loop
@@ -207,7 +212,9 @@ loop-again c =
     (c .if1 .came)
 
 returns-3 : tie.Need-returns-3 Inv-loop μ-loop
-returns-3 c = scan-all (c .before .loop .inv .0) (c .loop-test .left)
+returns-3 c =
+    let all = scan-all (c .before .loop .inv .0) (c .loop-test .left) in
+    (ap (λ (s : Scan). s .fit) all, λ _. all)
 
 pub scan-table-spec : {M : Type 1} → statement M
 scan-table-spec =
@@ -220,18 +227,18 @@ scan-table-spec =
     element-copy-out-e
     mul-slot
     element-copy-out-plain
-    array-write-plain
+    element-write-plain
     element-copy-out-plain-2
     add-plain
-    array-write-plain-2
+    element-write-plain-2
     element-copy-out-plain-3
     add-plain-2
-    array-write-plain-3
+    element-write-plain-3
     element-copy-out-plain-4
     add-plain-3
-    array-write-plain-4
+    element-write-plain-4
     used-fit-requires
-    unfit-requires
+    unfit-entries-requires
     returns
     cast-id
     sub-at
@@ -241,14 +248,14 @@ scan-table-spec =
     array-read-apart
     array-read-apart-2
     apart-requires
-    unfit-requires-2
+    unfit-entries-requires-2
     returns-2
     array-write-noted
     array-write-noted-2
     mul-ids
-    array-write-ids
+    element-write-ids
     mul-sites
-    array-write-sites
+    element-write-sites
     cast-held
     add-held
     add-i
