@@ -23,7 +23,8 @@ opened : (c : tie.After-checked) → let a = start c .args in
     Answers (sessionWithin (restOf (now (a .call))) (length (now (a .out))) []) (c .checked .result) (now (a .out))
     (c .checked .last .1 .0)
 opened c =
-    checked-rest (now (start c .args .call)) setupBytes _ (c .before .before .before .at-most .ensures) _ _ _ (c .checked .ensures)
+    checked-rest (now (start c .args .call)) setupBytes _ (c .before .before .before .at-most .ensures) _ _ _
+    (c .checked .ensures)
 
 -- the session is made
 makes : (c : tie.Else1) → let k = opening c in
