@@ -17,7 +17,7 @@ import random
 import sys
 
 import protected_calls
-from protected_calls import BLOCK, HELD, HELD_MEMORY, HELD_PROCESSES, LEAST_BUFFER, READY, RESTART, SCHEDULE, STATE
+from protected_calls import BLOCK, HELD, HELD_MEMORY, HELD_PROCESSES, READY, RESTART, SCHEDULE, STATE
 from protected_calls import STOPPED, TOP, TRAP, TRAP_EVENT, any_step, any_text, counted_or_run, word
 
 KIND = 14

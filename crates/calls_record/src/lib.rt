@@ -137,6 +137,7 @@ pub fn size(call: &[u8]) -> usize
     ensures { λ r. ⌜ (r ≡ callSize (now (call .entry))) × (r ≤ callMost) ⌝ }
 {
     if text_packet_read::front(call) == RECORD {
+        // Where the lengths begin, behind memory; in a call that is cut short before, its end.
         let from = calls_setup::at_most(call.len(), BYTES);
         return BYTES + calls_step::step_size(&call[from..]);
     }
