@@ -4,8 +4,9 @@
 # Takes libsanirvoq.a of the folder SANIRVOQ_LIB, else of target/staticlib, where `rt staticlib sanirvoq` puts it. The
 # tests of the program of document 01 need target/bin/program_main (`rt check program_main`), those of the head under
 # qemu target/head/head.elf (examples/head/build.sh); what is missing fails here, with the command that makes it.
-# Needs the packages of python/README.md, "Install" and "Tests". The last line is 'N passed, M failed'; exit status 1
-# unless M is 0.
+# Needs on Debian 12 the packages of all tests:
+#     apt-get update && apt-get install -y $(cat tests/packages.txt)
+# The last line is 'N passed, M failed'; exit status 1 unless M is 0.
 set -uo pipefail
 if [ -n "${SANIRVOQ_LIB:-}" ]; then
     SANIRVOQ_LIB=$(realpath -m -- "$SANIRVOQ_LIB")
@@ -17,7 +18,8 @@ cd "$(dirname "$0")/../python" || exit 1
 python=python3
 "$python" -c 'import pexpect, prompt_toolkit, pyte, pytest, rich, serial' 2> /dev/null || python=/usr/bin/python3
 "$python" -c 'import mypy, pexpect, prompt_toolkit, pyte, pytest, rich, serial' || {
-    echo "packages are missing: python/README.md, \"Install\" and \"Tests\""
+    # shellcheck disable=SC2016
+    echo 'packages are missing: apt-get update && apt-get install -y $(cat tests/packages.txt)'
     echo "0 passed, 1 failed"
     exit 1
 }

@@ -5,7 +5,8 @@
 # those of the folder SANIRVOQ_LIB.
 # A check prints 'ok NAME' or 'FAILED NAME'; what it wrote is in target/outside/NAME.log. None is left out: where a
 # part of the repository, a program of the gate or a tool is missing, its checks fail.
-# Needs rt, cargo with clippy and rustfmt (by rustup), and on Debian 12: apt-get install gcc g++ valgrind python3
+# Needs rt, cargo with clippy and rustfmt (by rustup), and on Debian 12 the packages of all tests:
+#     apt-get update && apt-get install -y $(cat tests/packages.txt)
 # The last line is 'N passed, M failed'; exit status 1 unless M is 0.
 set -uo pipefail
 if [ -n "${SANIRVOQ_LIB:-}" ]; then
@@ -211,6 +212,7 @@ check wire_vectors python3 tests/wire_vectors.py --check
 check frame_vectors python3 tests/frame_vectors.py --check
 check program_vectors python3 tests/program_vectors.py --check
 check protected_calls calls_by_reference protected_calls
+check record_calls calls_by_reference record_calls
 check patch_calls calls_by_reference patch_calls
 check patch_run patch_run
 check compare_tests tests_of compare

@@ -823,10 +823,10 @@ def said(made):
     return f"{len(made)} calls: setups of {counts}; {unsup} times unsup, {errors} times errno 13"
 
 
-def main():
-    made = list(cases())
+def counted_or_run(made, said_of):
+    """Says what the calls are, or runs them by the program of the command line and says how many answers are wrong."""
     if len(sys.argv) == 1:
-        print(said(made))
+        print(said_of(made))
         return 0
     data = b"".join(call for call, _ in made)
     output = subprocess.run(sys.argv[1:], input=data, stdout=subprocess.PIPE, check=True).stdout
@@ -839,9 +839,9 @@ def main():
     if output:
         wrong += 1
         print(f"left over: {output.hex(' ')}")
-    print(f"{said(made)}; {wrong} wrong")
+    print(f"{said_of(made)}; {wrong} wrong")
     return 1 if wrong else 0
 
 
 if __name__ == "__main__":
-    sys.exit(main())
+    sys.exit(counted_or_run(list(cases()), said))

@@ -5,8 +5,8 @@
 # tools/build_archives.sh, or taken from the folder SANIRVOQ_ARCHIVES.
 # A check prints 'ok NAME' or 'FAILED NAME'; what it wrote is in target/riscv/NAME.log. The figures for
 # docs/PERFORMANCE.md, "RISC-V", are in target/riscv/figures.txt.
-# Needs rt, gcc and python3, and besides:
-#     apt-get install qemu-system-misc gcc-riscv64-unknown-elf clang lld
+# Needs rt, and on Debian 12 the packages of all tests:
+#     apt-get update && apt-get install -y $(cat tests/packages.txt)
 # The last line is 'N passed, M failed'; exit status 1 unless M is 0.
 set -uo pipefail
 given=${SANIRVOQ_ARCHIVES:+$(realpath -m -- "$SANIRVOQ_ARCHIVES")}
@@ -39,7 +39,8 @@ tools() {
         command -v "$tool" || missing="$missing $tool"
     done
     [ -z "$missing" ] || {
-        echo "missing:$missing; apt-get install qemu-system-misc gcc-riscv64-unknown-elf clang lld"
+        # shellcheck disable=SC2016
+        echo "missing:$missing;" 'apt-get update && apt-get install -y $(cat tests/packages.txt)'
         return 1
     }
 }
@@ -143,6 +144,10 @@ rm -rf "$logs"
 mkdir -p "$logs" || exit 1
 check tools tools
 check archives archives
+cases=$(tests/archives_fail.sh --list)
+for case in ${cases:-none}; do
+    check "archives_fail_$case" tests/archives_fail.sh "$case"
+done
 check retarget python3 tests/riscv/retarget_test.py
 check symbols symbols
 check convention_x86_64_gcc run x86_64 gcc convention

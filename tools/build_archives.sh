@@ -5,7 +5,8 @@
 #     x86_64/libsanirvoq.a                            the archive of `rt staticlib sanirvoq`, byte for byte
 #     rv32imac/libsanirvoq.a, rv64imac/...            -O3, as the toolchain compiles for x86-64 (ilp32 and lp64)
 #     rv32imac-small/libsanirvoq.a, rv64imac-small/.. -Os
-# Needs rt and python3. Ends with exit status 1, and a line that says why, where an archive cannot be had.
+# Needs rt and python3. Ends with exit status 1, and a line that says why, where an archive cannot be had; then there is
+# none in target/archives, not of an earlier run either (tests/archives_fail.sh).
 #
 # What is proved is the crate: what its functions do, for every input. Neither the x86-64 nor a RISC-V archive is
 # proved: LLVM compiles both. The toolchain has no target but x86-64, so here its own clang compiles the proved crate's
@@ -22,6 +23,14 @@ fail() {
     exit 1
 }
 
+# An archive that is left is one of this run, and stands beside the others.
+ended() {
+    local status=$?
+    [ "$status" -eq 0 ] || rm -f "$out"/*/libsanirvoq.a
+}
+rm -rf "$out"
+trap ended EXIT
+
 command -v rt > /dev/null || fail "rt, the Rattle toolchain, is not there (README names its version)"
 command -v python3 > /dev/null || fail "python3 is not there"
 kit=${RATTLE_HOME:-$(dirname "$(dirname "$(rt doc)")")}
@@ -31,7 +40,6 @@ tools=$kit/on/$machine/toolchain
 [ -x "$tools/bin/clang" ] || fail "no clang at $tools/bin: the toolchain's folders are not as they were"
 
 # The kit, by links, but for clang.
-rm -rf "$out"
 mkdir -p "$out/kit/on/$machine/toolchain/bin" "$out/module"
 for entry in "$kit"/*; do
     [ "$entry" = "$kit/on" ] || ln -s "$entry" "$out/kit/"
@@ -63,7 +71,7 @@ grep -q '^logic=proved ' "$out/staticlib.log" || fail "rt staticlib did not say 
 [ "$(wc -l < "$out/module/calls")" = 1 ] || fail "rt staticlib ran clang more than once: which module is it?"
 [ -s "$out/module/module.bc" ] || fail "rt staticlib gave clang no bitcode file: the module cannot be had this way"
 mkdir -p "$out/x86_64"
-cp target/staticlib/libsanirvoq.a "$out/x86_64/"
+cp target/staticlib/libsanirvoq.a "$out/x86_64/" || fail "rt staticlib left no archive for x86-64"
 
 # The module as text; no pass is run over it.
 "$tools/bin/clang" --no-default-config --target=x86_64-unknown-linux-gnu -x ir -S -emit-llvm -Xclang \

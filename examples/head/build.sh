@@ -3,7 +3,7 @@
 #     examples/head/build.sh [PROGRAMS]
 # PROGRAMS is another file in the place of programs.S; then only target/head/NAME.elf is built, with the proved stub.
 # Needs the archive of tools/build_archives.sh, which is looked for in the folder SANIRVOQ_ARCHIVES or target/archives,
-# and a cross compiler: apt-get install gcc-riscv64-unknown-elf
+# and a cross compiler: apt-get update && apt-get install -y gcc-riscv64-unknown-elf
 set -euo pipefail
 cd "$(dirname "$0")/../.."
 archives=${SANIRVOQ_ARCHIVES:-target/archives}
@@ -16,7 +16,7 @@ fail() {
 }
 
 command -v riscv64-unknown-elf-gcc > /dev/null ||
-    fail "no RISC-V compiler: apt-get install qemu-system-misc gcc-riscv64-unknown-elf clang"
+    fail "no RISC-V compiler: apt-get update && apt-get install -y gcc-riscv64-unknown-elf"
 [ -f "$archive" ] || fail "no $archive: run tools/build_archives.sh first"
 mkdir -p target/head
 

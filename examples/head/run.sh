@@ -3,7 +3,7 @@
 #     examples/head/run.sh [--naive] [SERIAL]
 # SERIAL says where qemu puts the head's serial line, in qemu's words: stdio (the default), pty, or a socket such as
 # tcp:127.0.0.1:4000,server=on,wait=off or unix:/tmp/head.sock,server=on,wait=off.
-# Needs qemu: apt-get install qemu-system-misc
+# Needs qemu: apt-get update && apt-get install -y qemu-system-misc
 set -euo pipefail
 cd "$(dirname "$0")/../.."
 name='head'
@@ -12,7 +12,7 @@ if [ "${1:-}" = --naive ]; then
     shift
 fi
 command -v qemu-system-riscv32 > /dev/null || {
-    echo "run.sh: no qemu: apt-get install qemu-system-misc gcc-riscv64-unknown-elf clang" >&2
+    echo "run.sh: no qemu: apt-get update && apt-get install -y qemu-system-misc" >&2
     exit 1
 }
 [ -f "target/head/$name.elf" ] || {

@@ -9,7 +9,8 @@ def start() -> int:
     try:
         from .cli.main import entry
     except ModuleNotFoundError as error:
-        print(f"{error}: apt-get install -y python3-serial python3-prompt-toolkit python3-rich gcc", file=sys.stderr)
+        packages = "python3-serial python3-prompt-toolkit python3-rich gcc"
+        print(f"{error}: apt-get update && apt-get install -y {packages}", file=sys.stderr)
         return 5
     return entry()
 

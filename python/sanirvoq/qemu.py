@@ -22,7 +22,7 @@ def image() -> Path:
     """The kernel's image; an error where it or qemu is missing."""
     path = repository() / IMAGE
     if shutil.which(EMULATOR) is None:
-        raise CommandError(f"{EMULATOR} is not installed: apt-get install qemu-system-misc")
+        raise CommandError(f"{EMULATOR} is not installed: apt-get update && apt-get install -y qemu-system-misc")
     if not path.is_file():
         raise CommandError(f"no {path}: make it with examples/head/build.sh")
     return path

@@ -3,6 +3,7 @@
 from __future__ import annotations
 
 import os
+import signal
 import subprocess
 import sys
 from dataclasses import dataclass
@@ -23,6 +24,9 @@ from sanirvoq.noise import Noise  # noqa: E402
 from sanirvoq.serving import PracticeLink  # noqa: E402
 
 PLAIN = bytes(i & 0xFF for i in range(1024))
+
+# A shell lets what it starts in the background ignore Ctrl-C, and so would every program that the tests start.
+signal.signal(signal.SIGINT, signal.default_int_handler)
 
 
 @dataclass

@@ -18,7 +18,7 @@ OLD, NEW = bytes.fromhex("13078020"), bytes.fromhex("13878702")
 
 @pytest.fixture
 def address(required: Callable[[bool, str], None]) -> Iterator[str]:
-    required(shutil.which(qemu.EMULATOR) is not None, "apt-get install qemu-system-misc")
+    required(shutil.which(qemu.EMULATOR) is not None, "apt-get update && apt-get install -y qemu-system-misc")
     required((REPOSITORY / qemu.IMAGE).is_file(), "make it with examples/head/build.sh")
     with qemu.running() as found:
         yield found

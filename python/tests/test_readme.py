@@ -24,7 +24,7 @@ def test_practice(block: str, tmp_path: Path) -> None:
 
 @pytest.mark.parametrize("block", blocks("qemu"), ids=lambda block: "session")
 def test_qemu(block: str, tmp_path: Path, required: Callable[[bool, str], None]) -> None:
-    required(shutil.which(qemu.EMULATOR) is not None, "apt-get install qemu-system-misc")
+    required(shutil.which(qemu.EMULATOR) is not None, "apt-get update && apt-get install -y qemu-system-misc")
     required((REPOSITORY / qemu.IMAGE).is_file(), "make it with examples/head/build.sh")
     shown = session("qemu", block, tmp_path)
     assert comparable(shown) == comparable(block)

@@ -23,7 +23,7 @@ use Rattle.calls_run.specs.declared.Answered.{Answered}
 use Rattle.calls_run.specs.Format.{callMost}
 use Rattle.calls_run.specs.Written.{Writes, Answers}
 use Rattle.calls_text.proofs.Calls.{take-replicate}
-use Rattle.calls_step.specs.Format.{headBytes, windowHeld, stepSize, sessionAnswer, sessionWithin}
+use Rattle.calls_step.specs.Format.{headBytes, stepHeld, windowHeld, stepSize, sessionAnswer, sessionWithin}
 use Rattle.calls_step.specs.Format.{callSize as otherSize, answerWithin as otherAnswer}
 use Rattle.calls_step.proofs.Calls.{has-head, size-few}
 use Rattle.calls_step.proofs.Parts.{Joined, behind, at-front}
@@ -58,6 +58,45 @@ take-tab zero n f h = refl
 take-tab (suc k) zero f h = absurd (omega arith)
 take-tab (suc k) (suc n) f h = ap (λ (l : List ℕ). f zero ∷ l) (take-tab k n (λ i. f (suc i)) (omega arith))
 
+-- ---- a call that has so many bytes, counted without its kind byte, in front of what kind 10 has behind that byte
+
+module _ (call : List ℕ) (front : ℕ) where
+  -- what stands there; of a call that is cut short before, nothing
+  rest-lent : (i : ℕ) → i ≡ min (length call) front → take (length call - i) (drop i call) ≡ drop front call
+  rest-lent i e =
+      part-to-end call i (length call) refl
+      ∙ on-less (length call) front
+      (λ l. drop-of-length-le call {i = i} (omega (arith, e))
+      ∙ sym (drop-of-length-le call {i = front} (omega arith)))
+      (λ l. let q : i ≡ front = omega (arith, e) in
+      ap (λ (k : ℕ). drop k call) q)
+
+  -- so long it is
+  pub size-rest : (i : ℕ) → i ≡ min (length call) front → (n : ℕ)
+      → n ≡ stepSize (take (length call - i) (drop i call))
+      → (n ≡ stepSize (drop front call)) × (n ≤ headBytes + 3 * stepHeld)
+  size-rest i e n h =
+      let m : n ≡ stepSize (drop front call) = h ∙ ap stepSize (rest-lent i e) in
+      (m, omega (arith, m, size-few (drop front call)))
+
+  -- and so its session is checked
+  pub checked-rest : (i : ℕ) → i ≡ min (length call) front → (r : Answered) (before after : List ℕ)
+      → Answers (sessionWithin (take (length call - i) (drop i call)) (length before) []) r before after
+      → Answers (sessionWithin (drop front call) (length before) []) r before after
+  checked-rest i e r before after o = rw (rest-lent i e) at o
+
+  -- a whole call has them
+  pub has-front : stepSize (drop front call) ≤ length (drop front call) → front + headBytes ≤ length call
+  has-front w = omega (arith, has-head (drop front call) w, length-drop front call)
+
+-- the register area that so many processes are lent, of one for as many as there can be
+pub registers-part : (y n : ℕ) → n ≡ min y maxProcesses → (regs : List ℕ)
+    → regs ≡ replicate (maxProcesses * blockSize) 0
+    → take (n * blockSize) regs ≡ replicate (min y maxProcesses * blockSize) 0
+registers-part y n g regs e =
+    ap (take (n * blockSize)) e ∙ take-replicate (n * blockSize) (maxProcesses * blockSize) 0 (omega (arith, g))
+    ∙ ap (λ (k : ℕ). replicate (k * blockSize) 0) g
+
 module _ (call : List ℕ) where
   -- ---- the kind, by the first byte
 
@@ -88,34 +127,13 @@ module _ (call : List ℕ) where
   unfolding answerWithin
   answer-other e room = rw e
 
-  -- ---- behind the setup
-
-  pub rest-lent : (i : ℕ) → i ≡ min (length call) setupBytes → take (length call - i) (drop i call) ≡ restOf call
-  rest-lent i e =
-      part-to-end call i (length call) refl
-      ∙ on-less (length call) setupBytes
-      (λ l. drop-of-length-le call {i = i} (omega (arith, e))
-      ∙ sym (drop-of-length-le call {i = setupBytes} (omega arith)))
-      (λ l. let q : i ≡ setupBytes = omega (arith, e) in
-      ap (λ (k : ℕ). drop k call) q)
-
   -- so long is a call whose rest is lent so
   pub size-lent : (i : ℕ) → i ≡ min (length call) setupBytes → (n : ℕ)
       → n ≡ stepSize (take (length call - i) (drop i call)) → isSetup call ≡ true
       → (setupBytes + n ≡ callSize call) × (setupBytes + n ≤ callMost)
   size-lent i e n h t =
-      let m : n ≡ stepSize (restOf call) = h ∙ ap stepSize (rest-lent i e) in
-      (ap (λ (k : ℕ). setupBytes + k) m ∙ size-setup t, omega (arith, m, size-few (restOf call)))
-
-  -- and so its session is checked
-  pub checked-rest : (i : ℕ) → i ≡ min (length call) setupBytes → (r : Answered) (before after : List ℕ)
-      → Answers (sessionWithin (take (length call - i) (drop i call)) (length before) []) r before after
-      → Answers (sessionWithin (restOf call) (length before) []) r before after
-  checked-rest i e r before after o = rw (rest-lent i e) at o
-
-  -- a whole call has its setup
-  pub has-setup : stepSize (restOf call) ≤ length (restOf call) → setupBytes + headBytes ≤ length call
-  has-setup w = omega (arith, has-head (restOf call) w, length-drop setupBytes call)
+      let m = size-rest call setupBytes i e n h in
+      (ap (λ (k : ℕ). setupBytes + k) (m .0) ∙ size-setup t, omega (arith, m .1))
 
   -- ---- the setup, and what it is lent
 
@@ -138,8 +156,7 @@ module _ (call : List ℕ) where
           → take (n * blockSize) regs ≡ lentRegisters call
       unfolding lentRegisters
       registers-lent regs e =
-          ap (take (n * blockSize)) e ∙ take-replicate (n * blockSize) (maxProcesses * blockSize) 0 (omega (arith, g))
-          ∙ ap (λ (k : ℕ). replicate (k * blockSize) 0) (g ∙ ap (λ (k : ℕ). min k maxProcesses) v)
+          registers-part y n g regs e ∙ ap (λ (k : ℕ). replicate (min k maxProcesses * blockSize) 0) v
 
       pub writes-lent : (mem regs : List ℕ) → mem ≡ tab windowHeld (λ i. i)
           → regs ≡ replicate (maxProcesses * blockSize) 0 → (k : ℕ) (before after : List ℕ)

@@ -24,7 +24,7 @@ const SETUP: u8 = 11;
 // Its bytes: B, M, from, to, how many processes, and four times pid and Proc address.
 const BYTES: usize = 60;
 
-const WINDOW: u32 = 64;
+const WINDOW: usize = 64;
 
 const REGISTERS: usize = Target::PROCESSES * Process::BLOCK;
 
@@ -52,23 +52,13 @@ fn four_at(s: &[u8], at: usize) -> [u32; Target::PROCESSES]
 }
 
 // A number, or the most that there is room for.
-fn at_most(n: u32, most: u32) -> usize
+pub fn at_most(n: usize, most: usize) -> usize
     ensures { λ r. ⌜ r ≡ min n most ⌝ }
 {
     if n < most {
-        return n as usize;
+        return n;
     }
-    most as usize
-}
-
-// Where the lengths begin, behind the setup; in a call that is cut short before, its end.
-fn rest_at(call: &[u8]) -> usize
-    ensures { λ r. ⌜ r ≡ min (length (now (call .entry))) setupBytes ⌝ }
-{
-    if call.len() < BYTES {
-        return call.len();
-    }
-    BYTES
+    most
 }
 
 // How many bytes the call takes that begins with these: while they are fewer, as many as they tell.
@@ -76,7 +66,8 @@ pub fn size(call: &[u8]) -> usize
     ensures { λ r. ⌜ (r ≡ callSize (now (call .entry))) × (r ≤ callMost) ⌝ }
 {
     if text_packet_read::front(call) == SETUP {
-        let from = rest_at(call);
+        // Where the lengths begin, behind the setup; in a call that is cut short before, its end.
+        let from = at_most(call.len(), BYTES);
         return BYTES + calls_step::step_size(&call[from..]);
     }
     calls_step::size(call)
@@ -120,7 +111,7 @@ fn made(call: &[u8], mem: &mut [u8], regs: &mut [u8], out: &mut [u8]) -> usize
 }
 
 // A register area for as many processes as there can be: a call is lent as much of it as it asks for.
-fn zeros() -> [u8; REGISTERS]
+pub fn zeros() -> [u8; REGISTERS]
     ensures { λ r. ⌜ r ≡ replicate (maxProcesses * blockSize) 0 ⌝ }
 {
     [0; REGISTERS]
@@ -135,8 +126,8 @@ fn lend(call: &[u8], out: &mut [u8]) -> usize
     let begin = program_io::start();
     let mut mem = begin.mem;
     let mut regs = zeros();
-    let m = at_most(common::word_at(call, 5), WINDOW);
-    let n = at_most(common::word_at(call, 25), Target::PROCESSES as u32) * Process::BLOCK;
+    let m = at_most(common::word_at(call, 5) as usize, WINDOW);
+    let n = at_most(common::word_at(call, 25) as usize, Target::PROCESSES) * Process::BLOCK;
     made(call, &mut mem[..m], &mut regs[..n], out)
 }
 
@@ -146,7 +137,7 @@ fn answer_setup(call: &[u8], out: &mut [u8]) -> Answered
     ensures { λ r. ⌜ Answers (answerWithin (now (call .entry)) (length (now (out .entry))))
         r (now (out .entry)) (now (out .exit)) ⌝ }
 {
-    let from = rest_at(call);
+    let from = at_most(call.len(), BYTES);
     let first = calls_step::checked(&call[from..], out);
     if !first.more {
         return first;

@@ -6,7 +6,7 @@ use borrow.Author.Tests.{not-true, not-false}
 use Rattle.calls_run.specs.Written.{Answers}
 use Rattle.calls_step.specs.Format.{sessionWithin}
 use Rattle.calls_step.proofs.Calls.{Made, made, not-made, answered}
-use Rattle.calls_setup.specs.Format.{restOf}
+use Rattle.calls_setup.specs.Format.{setupBytes, restOf}
 use Rattle.calls_setup.proofs.Calls.{checked-rest, setup-answers}
 use borrow.Author.Needs.{needs}
 use Rattle.calls_setup.proofs.answer_setup.Statement.{statement}
@@ -23,15 +23,16 @@ opened : (c : tie.After-checked) → let a = start c .args in
     Answers (sessionWithin (restOf (now (a .call))) (length (now (a .out))) []) (c .checked .result) (now (a .out))
     (c .checked .last .1 .0)
 opened c =
-    checked-rest (now (start c .args .call)) _ (c .before .before .before .rest-at .ensures) _ _ _ (c .checked .ensures)
+    checked-rest (now (start c .args .call)) setupBytes _ (c .before .before .before .at-most .ensures) _ _ _
+    (c .checked .ensures)
 
 -- the session is made
 makes : (c : tie.Else1) → let k = opening c in
     Made (restOf (now (start k .args .call))) (now (start k .args .out)) (k .checked .last .1 .0)
 makes c = made _ _ _ _ (opened (opening c)) (not-false _ (c .if1 .left))
 
-rest-at-requires : tie.Need-rest-at-requires
-rest-at-requires c κs = search needs
+at-most-requires : tie.Need-at-most-requires
+at-most-requires c κs = search needs
 
 sub-checked : tie.Need-sub-checked
 sub-checked c = search needs
@@ -72,7 +73,7 @@ pub answer-setup-spec : {M : Type 1} → statement M
 answer-setup-spec =
     tie.close
     (tie.spec
-    rest-at-requires
+    at-most-requires
     sub-checked
     part-checked-start
     part-checked-end

@@ -5,7 +5,8 @@ use denote.Ref.{now}
 use lib.ListN.{length-take}
 use lib.Seq.{length-take-le}
 use Rattle.calls_step.proofs.Parts.{begun-length}
-use Rattle.calls_setup.proofs.Calls.{has-setup, writes-lent}
+use Rattle.calls_setup.specs.Format.{setupBytes}
+use Rattle.calls_setup.proofs.Calls.{has-front, writes-lent}
 use borrow.Author.Needs.{needs}
 use Rattle.calls_setup.proofs.lend.Statement.{statement}
 use Rattle.calls_setup.proofs.lend.Tie as tie
@@ -19,7 +20,10 @@ zeros-requires c κs = search needs
 word-at-requires : tie.Need-word-at-requires
 word-at-requires c κs =
     let s = c .before .before .before .before .before in
-    omega (arith, has-setup (now (s .args .call)) (s .pre .1))
+    omega (arith, has-front (now (s .args .call)) setupBytes (s .pre .1))
+
+cast-at-most : tie.Need-cast-at-most
+cast-at-most c = search needs
 
 at-most-requires : tie.Need-at-most-requires
 at-most-requires c κs = search needs
@@ -27,10 +31,10 @@ at-most-requires c κs = search needs
 word-at-requires-2 : tie.Need-word-at-requires-2
 word-at-requires-2 c κs =
     let s = c .before .before .before .before .before .before .before in
-    omega (arith, has-setup (now (s .args .call)) (s .pre .1))
+    omega (arith, has-front (now (s .args .call)) setupBytes (s .pre .1))
 
-cast-at-most : tie.Need-cast-at-most
-cast-at-most c = search needs
+cast-at-most-2 : tie.Need-cast-at-most-2
+cast-at-most-2 c = search needs
 
 at-most-requires-2 : tie.Need-at-most-requires-2
 at-most-requires-2 c κs = search needs
@@ -77,9 +81,10 @@ lend-spec =
     start-requires
     zeros-requires
     word-at-requires
+    cast-at-most
     at-most-requires
     word-at-requires-2
-    cast-at-most
+    cast-at-most-2
     at-most-requires-2
     mul-n
     array-borrow-prefix-mem

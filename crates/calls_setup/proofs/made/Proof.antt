@@ -7,7 +7,7 @@ use lib.ListN.{length, length-set, length-take, length-drop}
 use Rattle.common.proofs.Lists.{part-to-end}
 use Rattle.calls_step.proofs.Parts.{sum-fits}
 use Rattle.calls_setup.specs.Format.{setupBytes}
-use Rattle.calls_setup.proofs.Calls.{has-setup, same-size, few-behind, made-refused, made-session}
+use Rattle.calls_setup.proofs.Calls.{has-front, same-size, few-behind, made-refused, made-session}
 use borrow.Author.Needs.{needs}
 use Rattle.calls_setup.proofs.made.Statement.{statement}
 use Rattle.calls_setup.proofs.made.Tie as tie
@@ -27,7 +27,7 @@ few c =
 setup-requires : tie.Need-setup-requires
 setup-requires c κs =
     let s = c .before .before .before .before .before .before in
-    omega (arith, has-setup (now (s .args .call)) (s .pre .1))
+    omega (arith, has-front (now (s .args .call)) setupBytes (s .pre .1))
 
 slice-write-out : tie.Need-slice-write-out
 slice-write-out c = search needs
@@ -50,12 +50,12 @@ returns c =
 sub-session : tie.Need-sub-session
 sub-session c =
     let s = start (c .before .before .before .before) in
-    omega (arith, has-setup (now (s .args .call)) (s .pre .1))
+    omega (arith, has-front (now (s .args .call)) setupBytes (s .pre .1))
 
 part-session-start : tie.Need-part-session-start
 part-session-start c =
     let s = start (c .before .before .before .before) in
-    omega (arith, has-setup (now (s .args .call)) (s .pre .1))
+    omega (arith, has-front (now (s .args .call)) setupBytes (s .pre .1))
 
 part-session-end : tie.Need-part-session-end
 part-session-end c = search needs

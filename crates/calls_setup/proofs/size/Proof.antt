@@ -9,8 +9,8 @@ use Rattle.calls_setup.proofs.size.Tie as tie
 front-requires : tie.Need-front-requires
 front-requires c κs = search needs
 
-rest-at-requires : tie.Need-rest-at-requires
-rest-at-requires c κs = search needs
+at-most-requires : tie.Need-at-most-requires
+at-most-requires c κs = search needs
 
 sub-step-size : tie.Need-sub-step-size
 sub-step-size c = search needs
@@ -31,7 +31,7 @@ returns : tie.Need-returns
 returns c =
     let r = c .before .before in
     let t = r .before in
-    size-lent _ _ (r .rest-at .ensures) _ (c .step-size .ensures .0)
+    size-lent _ _ (r .at-most .ensures) _ (c .step-size .ensures .0)
     (setup-kind _ _ (t .before .front .ensures) (t .if1 .taken))
 
 size-requires : tie.Need-size-requires
@@ -47,7 +47,7 @@ size-spec =
     tie.close
     (tie.spec
     front-requires
-    rest-at-requires
+    at-most-requires
     sub-step-size
     part-step-size-start
     part-step-size-end

@@ -1,0 +1,35 @@
+-- `calls_record::draft_at` meets its contract. Assumes nothing.
+use Rattle.calls_record.specs.Format.{draftAt}
+use borrow.Author.Needs.{needs}
+use Rattle.calls_record.proofs.draft_at.Statement.{statement}
+use Rattle.calls_record.proofs.draft_at.Tie as tie
+
+shared-slice-read-t4 : tie.Need-shared-slice-read-t4
+shared-slice-read-t4 c = search needs
+
+add-t5 : tie.Need-add-t5
+add-t5 c = search needs
+
+shared-slice-read-t7 : tie.Need-shared-slice-read-t7
+shared-slice-read-t7 c = search needs
+
+add-t8 : tie.Need-add-t8
+add-t8 c = search needs
+
+shared-slice-read-t10 : tie.Need-shared-slice-read-t10
+shared-slice-read-t10 c = search needs
+
+returns : tie.Need-returns
+unfolding draftAt
+returns c = cc
+
+pub draft-at-spec : {M : Type 1} → statement M
+draft-at-spec =
+    tie.close
+    (tie.spec
+    shared-slice-read-t4
+    add-t5
+    shared-slice-read-t7
+    add-t8
+    shared-slice-read-t10
+    returns)
