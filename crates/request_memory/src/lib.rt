@@ -10,7 +10,6 @@ use target::Target;
 use target_fit::Lookup;
 use target_fit::Scan;
 use wire::Data4;
-use wire::Data9;
 use wire::Message;
 use wire_text::Reason;
 ghost use mathlib.Core.Path.{_≡_};
@@ -78,22 +77,12 @@ fn rerr(reason: Reason) -> [u8; 10]
     wire::bytes_of(Message::Rerr { reason })
 }
 
+// Rmget by its bytes, as `wire::bytes_of` has them: it is the reply that comes most, and by that function the nine
+// bytes go through memory once more.
 fn rmget(b: [u8; 9]) -> [u8; 10]
     ensures { λ r. ⌜ r ≡ bytesOf (message.Rmget (data9Of b)) ⌝ }
 {
-    wire::bytes_of(Message::Rmget {
-        data: Data9 {
-            b0: b[0],
-            b1: b[1],
-            b2: b[2],
-            b3: b[3],
-            b4: b[4],
-            b5: b[5],
-            b6: b[6],
-            b7: b[7],
-            b8: b[8],
-        },
-    })
+    [3, b[0], b[1], b[2], b[3], b[4], b[5], b[6], b[7], b[8]]
 }
 
 // The reply to a read of a part of a block, or why it may not be used.

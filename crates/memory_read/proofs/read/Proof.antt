@@ -8,11 +8,11 @@ use borrow.Author.Needs.{needs}
 use Rattle.memory_read.proofs.read.Statement.{statement}
 use Rattle.memory_read.proofs.read.Tie as tie
 
-slice-aggregate-copy : tie.Need-slice-aggregate-copy
-slice-aggregate-copy c = search needs
+slice-aggregate-straight : tie.Need-slice-aggregate-straight
+slice-aggregate-straight c = search needs
 
-copy-requires : tie.Need-copy-requires
-copy-requires c κs = search needs
+straight-requires : tie.Need-straight-requires
+straight-requires c κs = search needs
 
 count-requires : tie.Need-count-requires
 count-requires c κs = search needs
@@ -35,7 +35,7 @@ returns c =
     let k = n .before .before in
     let a = k .before .before .before .args in
     l .lay-all .ensures
-    ∙ rw (n .count .ensures, k .copy .ensures ∙ copied-zeros (now (a .part)) 9) (read-laid 2 _ _ (now (a .part)) _ 9)
+    ∙ rw (n .count .ensures, k .straight .ensures ∙ copied-zeros (now (a .part)) 9) (read-laid 2 _ _ (now (a .part)) _ 9)
 
 returns-2 : tie.Need-returns-2
 returns-2 c =
@@ -43,15 +43,15 @@ returns-2 c =
     let n = m .before in
     let k = n .before .before in
     let a = k .before .before .before .args in
-    k .copy .ensures ∙ copied-zeros (now (a .part)) 9
+    k .straight .ensures ∙ copied-zeros (now (a .part)) 9
     ∙ read-straight 2 _ _ (now (a .part)) _ 9 (sym (c .if1 .left) ∙ m .meets .ensures ∙ rw (n .count .ensures))
 
 pub read-spec : {M : Type 1} → statement M
 read-spec =
     tie.close
     (tie.spec
-    slice-aggregate-copy
-    copy-requires
+    slice-aggregate-straight
+    straight-requires
     count-requires
     meets-requires
     slice-aggregate-lay-all

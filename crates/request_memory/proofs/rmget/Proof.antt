@@ -1,6 +1,9 @@
--- `request_memory::rmget` meets its contract: the nine bytes are the data's fields. Assumes nothing.
+-- `request_memory::rmget` meets its contract: the type, then the nine bytes. Assumes nothing.
+use mathlib.Core.Path.{refl}
 use borrow.Author.Needs.{needs}
 use Rattle.rules.specs.Request.{data9Of}
+use Rattle.common.specs.Text.{padded}
+use Rattle.wire.specs.Message.{bytesOf, typeOf, fieldsOf, bytes9}
 use Rattle.request_memory.proofs.rmget.Statement.{statement}
 use Rattle.request_memory.proofs.rmget.Tie as tie
 
@@ -31,12 +34,9 @@ array-read-t26 c = search needs
 array-read-t29 : tie.Need-array-read-t29
 array-read-t29 c = search needs
 
-bytes-of-requires : tie.Need-bytes-of-requires
-bytes-of-requires c κs = search needs
-
 returns : tie.Need-returns
-unfolding data9Of
-returns c = c .bytes-of .ensures
+unfolding bytesOf typeOf fieldsOf padded bytes9 data9Of
+returns c = refl
 
 pub rmget-spec : {M : Type 1} → statement M
 rmget-spec =
@@ -51,5 +51,4 @@ rmget-spec =
     array-read-t23
     array-read-t26
     array-read-t29
-    bytes-of-requires
     returns)
