@@ -1,10 +1,9 @@
 -- `patch_next::lowest_by_blocks` meets its contract. The loop's invariant: no byte from `at` to before i differs.
 -- Assumes nothing.
-use mathlib.Core.Path.{_≡_, refl, sym, ap, _∙_}
-use Prim.Native.Nat.{ℕ, _+_, _-_, _<_, _≤_}
+use mathlib.Core.Path.{_≡_, refl, sym, _∙_}
+use Prim.Native.Nat.{_-_, _≤_}
 use native.Mathlib.Omega.{arith}
 use borrow.Author.Tests.{not-true, not-false}
-use denote.Ref.{now}
 use lib.ListN.{length}
 use Rattle.patch.specs.Plan.{lowestFrom}
 use Rattle.patch_next.proofs.Blocks.{block-agrees, block-differs}

@@ -1,9 +1,8 @@
 -- `patch_next::lowest_of_block` meets its contract. The loop's invariant: `low` is the lowest differing byte of the
 -- block from place k on. Assumes nothing.
-use mathlib.Core.Path.{_≡_, refl, sym, ap, _∙_}
-use Prim.Native.Nat.{ℕ, _+_, _-_, _<_, _≤_}
+use mathlib.Core.Path.{_≡_, _∙_}
+use Prim.Native.Nat.{_+_, _-_, _≤_}
 use native.Mathlib.Omega.{arith}
-use denote.Ref.{now}
 use lib.ListN.{length}
 use Rattle.patch.specs.Plan.{lowestFrom}
 use Rattle.patch_next.proofs.Differing.{lowest-here}
