@@ -26,7 +26,7 @@ module _ (plain wanted : List ℕ) where
       (λ e. rw e (omega arith))
       (λ e. rw e (omega (arith, lowest-from n (suc at))))
 
-  lowest-differs : (n at : ℕ) → lowestFrom plain wanted n at < at + n
+  pub lowest-differs : (n at : ℕ) → lowestFrom plain wanted n at < at + n
       → differsAt plain wanted (lowestFrom plain wanted n at) ≡ true
   unfolding lowestFrom
   lowest-differs zero at h = absurd (omega arith)

@@ -1,38 +1,27 @@
 // What the planner has to know before it fills a list: whether a protected byte differs, and how many writes it makes.
-ghost use mathlib.Core.Bool.{not, _&&_};
 ghost use mathlib.Core.Path.{_≡_};
 ghost use Prim.Native.Nat.{_+_, _≤_};
-ghost use lib.Dec.{eqb};
 ghost use lib.ListN.{length};
-ghost use Rattle.patch.specs.Check.{isProtected};
 ghost use Rattle.patch.specs.Plan.{plan, protectedDiffers};
 
-// Whether an offset is protected and its two bytes differ.
-fn is_changed(a: u8, b: u8, from: usize, to: usize, i: usize) -> bool
-    ensures { λ r. ⌜ r ≡ (isProtected from to i && not (eqb a b)) ⌝ }
-{
-    if i < from {
-        return false;
-    }
-    if to <= i {
-        return false;
-    }
-    a != b
-}
-
-// The offset of the lowest protected byte at which the images differ, or the window's size.
+// The offset of the lowest protected byte at which the images differ, or the window's size: the lowest differing byte
+// from the stretch's first on, where that is in the stretch.
 pub fn protected_differs(plain: &[u8], wanted: &[u8], from: usize, to: usize) -> usize
     requires { ⌜ length (now wanted) ≡ length (now plain) ⌝ }
     ensures { λ r. ⌜ r ≡ protectedDiffers from to (now (plain .entry)) (now (wanted .entry)) ⌝ }
 {
-    let mut i: usize = 0;
-    while i < plain.len() {
-        if is_changed(plain[i], wanted[i], from, to, i) {
-            return i;
-        }
-        i += 1;
+    let size = plain.len();
+    if to <= from {
+        return size;
     }
-    i
+    if size <= from {
+        return size;
+    }
+    let low = patch_next::lowest(plain, wanted, from);
+    if to <= low {
+        return size;
+    }
+    low
 }
 
 // How many writes the planner makes. The next one starts at the lowest differing byte behind the one before.

@@ -1,65 +1,34 @@
--- `patch_next::lowest` meets its contract. The loop's invariant: no byte from `at` to before i differs. Assumes
--- nothing.
-use mathlib.Core.Path.{_≡_, refl, sym, _∙_}
-use Prim.Native.Nat.{_-_, _≤_}
+-- `patch_next::lowest` meets its contract. Assumes nothing.
 use native.Mathlib.Omega.{arith}
-use lib.ListN.{length}
-use Rattle.patch.specs.Plan.{lowestFrom}
-use Rattle.patch_next.proofs.Differing.{lowest-here, lowest-later, lowest-none}
+use borrow.Author.Needs.{needs}
+use Rattle.patch_next.proofs.Differing.{lowest-here}
 use Rattle.patch_next.proofs.lowest.Statement.{statement}
 use Rattle.patch_next.proofs.lowest.Tie as tie
 use Rattle.patch_next.proofs.lowest.Reads as reads
 use Rattle.patch_next.proofs.lowest.Lts as lts
+use Rattle.patch_next.proofs.lowest_by_blocks.Reads as lowest-by-blocks-reads
 
-abbrev Inv-loop : tie.InvT-loop
-Inv-loop plain wanted at i₀ i =
-    (i ≤ length plain) × (length wanted ≡ length plain)
-    × (lowestFrom plain wanted (length plain - at) at ≡ lowestFrom plain wanted (length plain - i) i)
+shared-slice-read-if2 : tie.Need-shared-slice-read-if2
+shared-slice-read-if2 c = search needs
 
-abbrev μ-loop : tie.MeasureT-loop
-μ-loop plain wanted at i₀ i = length plain - i
+shared-slice-read-if2-2 : tie.Need-shared-slice-read-if2-2
+shared-slice-read-if2-2 c = search needs
 
-loop-holds : tie.Need-loop-holds Inv-loop μ-loop
-loop-holds c = (omega arith, c .pre .0, refl)
+returns : tie.Need-returns
+returns c = lowest-here _ _ _ _ (omega arith) (c .if2 .taken)
 
-shared-slice-read-if1 : tie.Need-shared-slice-read-if1 Inv-loop μ-loop
-shared-slice-read-if1 c = omega arith
+lowest-by-blocks-requires : tie.Need-lowest-by-blocks-requires
+lowest-by-blocks-requires c κs = search needs
 
-shared-slice-read-if1-2 : tie.Need-shared-slice-read-if1-2 Inv-loop μ-loop
-shared-slice-read-if1-2 c = omega arith
-
-returns : tie.Need-returns Inv-loop μ-loop
-returns c =
-    let o = c .before .before .before .before .loop in
-    lowest-here _ _ _ (o .i) (omega arith) (c .if1 .taken) ∙ sym (o .inv .2)
-
-add-i : tie.Need-add-i Inv-loop μ-loop
-add-i c = omega arith
-
-loop-less : tie.Need-loop-less Inv-loop μ-loop
-loop-less c = omega arith
-
-loop-again : tie.Need-loop-again Inv-loop μ-loop
-loop-again c =
-    let o = c .before .before .before .before .loop in
-    (omega arith, o .inv .1, o .inv .2 ∙ lowest-later _ _ _ (o .i) (omega arith) (c .if1 .left))
-
-returns-2 : tie.Need-returns-2 Inv-loop μ-loop
-returns-2 c =
-    let o = c .before .loop in
-    lowest-none _ _ _ (o .i) (omega arith) ∙ sym (o .inv .2)
+returns-2 : tie.Need-returns-2
+returns-2 c = search needs
 
 pub lowest-spec : {M : Type 1} → statement M
 lowest-spec =
     tie.close
     (tie.spec
-    Inv-loop
-    μ-loop
-    loop-holds
-    shared-slice-read-if1
-    shared-slice-read-if1-2
+    shared-slice-read-if2
+    shared-slice-read-if2-2
     returns
-    add-i
-    loop-less
-    loop-again
+    lowest-by-blocks-requires
     returns-2)
