@@ -26,7 +26,7 @@ const BYTES: usize = 60;
 
 const WINDOW: u32 = 64;
 
-const REGISTERS: usize = Target::PROCESSES * Process::BLOCK;
+pub const REGISTERS: usize = Target::PROCESSES * Process::BLOCK;
 
 // The number of the eight bytes at an index, high-order first.
 fn long_at(s: &[u8], at: usize) -> u64
@@ -52,7 +52,7 @@ fn four_at(s: &[u8], at: usize) -> [u32; Target::PROCESSES]
 }
 
 // A number, or the most that there is room for.
-fn at_most(n: u32, most: u32) -> usize
+pub fn at_most(n: u32, most: u32) -> usize
     ensures { λ r. ⌜ r ≡ min n most ⌝ }
 {
     if n < most {
@@ -83,7 +83,7 @@ pub fn size(call: &[u8]) -> usize
 }
 
 // The setup of a call, over the buffers lent to it.
-fn setup(call: &[u8], mem: &[u8], regs: &[u8]) -> Done
+pub fn setup(call: &[u8], mem: &[u8], regs: &[u8]) -> Done
     requires { ⌜ setupBytes < length (now call) ⌝ }
     ensures { λ r. ⌜ ((words : List ℕ) → outcome (r .number) (r .answer)
         (world (viewOf (r .target) words) (now (mem .entry)) (now (regs .entry))) []
@@ -120,7 +120,7 @@ fn made(call: &[u8], mem: &mut [u8], regs: &mut [u8], out: &mut [u8]) -> usize
 }
 
 // A register area for as many processes as there can be: a call is lent as much of it as it asks for.
-fn zeros() -> [u8; REGISTERS]
+pub fn zeros() -> [u8; REGISTERS]
     ensures { λ r. ⌜ r ≡ replicate (maxProcesses * blockSize) 0 ⌝ }
 {
     [0; REGISTERS]
