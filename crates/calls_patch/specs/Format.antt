@@ -34,9 +34,12 @@ isCheck call = eqb (getD call 0 0) checkKind
 unfoldable pub isPatch : List ℕ → Bool
 isPatch call = isCheck call || eqb (getD call 0 0) planKind
 
--- the kind byte, the setup and four lengths
+-- behind the kind byte and the setup, of which `setupBytes` leaves out the last byte: four lengths
+abbrev pub lengthsAt : ℕ
+lengthsAt = setupBytes + 1
+
 abbrev pub headBytes : ℕ
-headBytes = setupBytes + 4 * wordBytes
+headBytes = lengthsAt + 4 * wordBytes
 
 -- "address, count and four data bytes"
 abbrev pub writeBytes : ℕ
@@ -65,10 +68,10 @@ planMost = 1 + 2 * wordBytes + writeBytes * writesHeld
 -- "the lengths of the steps, of the room, of the wanted image, and of the offer or the list, in writes"
 unfoldable pub lengthsOf : List ℕ → Lengths
 lengthsOf call = record {
-  steps = wordAt call setupBytes;
-  room = wordAt call (setupBytes + wordBytes);
-  image = wordAt call (setupBytes + 2 * wordBytes);
-  writes = wordAt call (setupBytes + 3 * wordBytes);
+  steps = wordAt call lengthsAt;
+  room = wordAt call (lengthsAt + wordBytes);
+  image = wordAt call (lengthsAt + 2 * wordBytes);
+  writes = wordAt call (lengthsAt + 3 * wordBytes);
 }
 
 -- they are none that the program does not hold

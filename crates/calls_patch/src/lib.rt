@@ -39,10 +39,10 @@ const PLAN: u8 = 13;
 
 const WORD: usize = 4;
 
-// The kind byte and the setup, with four lengths behind them.
-const SETUP: usize = 60;
+// Where the lengths stand, behind the kind byte and the setup, and what is behind them.
+const LENGTHS: usize = 61;
 
-const HEAD: usize = SETUP + 4 * WORD;
+const HEAD: usize = LENGTHS + 4 * WORD;
 
 // The bytes of a write: address, count, data.
 const WRITE: usize = 2 * WORD + 4;
@@ -85,10 +85,10 @@ fn lengths_of(call: &[u8]) -> Lengths
     ensures { λ r. ⌜ r ≡ lengthsOf (now (call .entry)) ⌝ }
 {
     Lengths {
-        steps: common::word_at(call, SETUP) as usize,
-        room: common::word_at(call, SETUP + WORD) as usize,
-        image: common::word_at(call, SETUP + 2 * WORD) as usize,
-        writes: common::word_at(call, SETUP + 3 * WORD) as usize,
+        steps: common::word_at(call, LENGTHS) as usize,
+        room: common::word_at(call, LENGTHS + WORD) as usize,
+        image: common::word_at(call, LENGTHS + 2 * WORD) as usize,
+        writes: common::word_at(call, LENGTHS + 3 * WORD) as usize,
     }
 }
 
@@ -222,13 +222,13 @@ fn put_list(out: &mut [u8], at: usize, list: [Write; WRITES_HELD], n: usize)
     }
 }
 
-// Checks an offer, the first n writes of a list.
+// Checks the first n writes of an offer.
 fn check_over(
     t: Target,
     places: &[u32; Table::WORDS],
     mem: &[u8],
     regs: &[u8],
-    list: [Write; WRITES_HELD],
+    offer: [Write; WRITES_HELD],
     n: usize,
     wanted: &[u8],
     room: &mut [u8],
@@ -236,9 +236,9 @@ fn check_over(
     requires { ⌜ n ≤ writesHeld ⌝ }
     ensures { λ r. ⌜ r ≡ checkCall house
         (world (viewOf t (now (places .entry))) (now (mem .entry)) (now (regs .entry)))
-        (length (now (room .entry))) (now (wanted .entry)) (take n list) ⌝ }
+        (length (now (room .entry))) (now (wanted .entry)) (take n offer) ⌝ }
 {
-    patch_calls::check(&t, places, mem, regs, &list[..n], wanted, room)
+    patch_calls::check(&t, places, mem, regs, &offer[..n], wanted, room)
 }
 
 // Plans into the first n places of a list.
@@ -323,8 +323,17 @@ fn check_call(
     let from = HEAD + l.steps;
     let to = from + l.image;
     let mut room = window();
-    let list = offer_in(&call[to..], n);
-    let c = check_over(t, places, mem, regs, list, n, &call[from..to], &mut room[..size]);
+    let offer = offer_in(&call[to..], n);
+    let c = check_over(
+        t,
+        places,
+        mem,
+        regs,
+        offer,
+        n,
+        &call[from..to],
+        &mut room[..size],
+    );
     show_check(c, out)
 }
 
@@ -349,7 +358,16 @@ fn plan_call(
     let from = HEAD + l.steps;
     let to = from + l.image;
     let mut room = window();
-    let p = plan_over(t, places, mem, regs, &call[from..to], &mut room[..size], blanks(), n);
+    let p = plan_over(
+        t,
+        places,
+        mem,
+        regs,
+        &call[from..to],
+        &mut room[..size],
+        blanks(),
+        n,
+    );
     show_plan(p, n, out)
 }
 
@@ -432,7 +450,8 @@ fn lend(call: &[u8], out: &mut [u8]) -> usize
     let mut mem = memory();
     let mut regs = calls_setup::zeros();
     let m = calls_setup::at_most(common::word_at(call, 5), MEMORY as u32);
-    let n = calls_setup::at_most(common::word_at(call, 25), Target::PROCESSES as u32) * Process::BLOCK;
+    let n = calls_setup::at_most(common::word_at(call, 25), Target::PROCESSES as u32)
+        * Process::BLOCK;
     made(call, &mut mem[..m], &mut regs[..n], out)
 }
 

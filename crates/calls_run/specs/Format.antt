@@ -28,9 +28,9 @@ listHeld = imageMost
 abbrev pub headBytes : ℕ
 headBytes = 1 + 3 * wordBytes
 
--- the most that a call takes: one of kind 12 (`calls_patch`), a head of 76 bytes, steps, an image and an offer
+-- the most that a call takes: one of kind 12 (`calls_patch`), a head of 77 bytes, steps, an image and an offer
 abbrev pub callMost : ℕ
-callMost = 76 + 1024 + imageHeld + 12 * 16385
+callMost = 77 + 1024 + imageHeld + 12 * 16385
 
 -- the most that an answer takes: number, count, list
 abbrev pub answerMost : ℕ

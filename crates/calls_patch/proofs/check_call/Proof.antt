@@ -63,7 +63,9 @@ part-check-over-end : tie.Need-part-check-over-end
 part-check-over-end c = omega (arith, whole (c .before .before .before .before .before))
 
 array-borrow-prefix-room : tie.Need-array-borrow-prefix-room
-array-borrow-prefix-room c = omega (arith, c .before .before .before .window .ensures, fits (c .before .before .before .before .before .before))
+array-borrow-prefix-room c =
+    let v = c .before .before .before in
+    omega (arith, v .window .ensures, fits (v .before .before .before))
 
 slice-aggregate-check-over : tie.Need-slice-aggregate-check-over
 slice-aggregate-check-over c = sym (length-take-le _ _ (array-borrow-prefix-room (c .before)))
@@ -90,8 +92,9 @@ returns c =
     let x : headBytes + l .steps + l .image - (headBytes + l .steps) ≡ l .image = omega arith in
     let y = length-take-le (l .room) (v .window .result) (omega (arith, v .window .ensures, fits n)) in
     let z = o .offer-in .ensures ∙ ap (writesIn (l .writes)) (part-to-end call _ (length call) refl) in
+    let e = rw (x, y, z) at (k .check-over .ensures) in
     let shown = h .show-check .ensures in (
-      shows-check _ _ l (n .lengths-of .ensures) (s .pre .2) _ (rw (x, y, z) at (k .check-over .ensures)) _ _ _ (shown .0),
+      shows-check _ _ l (n .lengths-of .ensures) (s .pre .2) _ e _ _ _ (shown .0),
       omega (arith, shown .1),
     )
 

@@ -249,7 +249,8 @@ module _ {M : Type 1} (𝓤 : URA M) (H : Heap 𝓤) (A : Atoms 𝓤) (W : Given
       (WpFn 𝓤 H (𝓣 .C) (𝓣 .Λ) code.function passed Left)
   walk 𝓣 known =
       qed W (all-tokens ∷ ‵ (owns (T.the-row ∷ ShrRef (named 0) κp Words ∷ ShrSlice (named 1) κm u8
-      ∷ ShrSlice (named 2) κr u8 ∷ List′ ∷ usize ∷ ShrSlice (named 3) κw u8 ∷ MutSlice (named 4) κo u8 ∷ []) a at) ∷ []) ∵
+      ∷ ShrSlice (named 2) κr u8 ∷ List′ ∷ usize ∷ ShrSlice (named 3) κw u8 ∷ MutSlice (named 4) κo u8 ∷ []) a at)
+      ∷ []) ∵
       enter ! (𝓣 .C) (𝓣 .Λ) code.function passed _ $
       alloc1 ! (λ m₀. alloc1 ! (λ m₁. alloc1 ! (λ m₂. alloc1 ! (λ m₃. alloc1 ! (λ m₄. alloc1 ! (λ m₅. alloc1 ! (λ m₆.
       alloc1 ! (λ m₇. alloc1 ! (λ m₈. alloc1 ! (λ m₉. alloc1 ! (λ m₁₀. alloc1 ! (λ m₁₁. alloc1 ! (λ m₁₂.
@@ -325,7 +326,8 @@ module _ {M : Type 1} (𝓤 : URA M) (H : Heap 𝓤) (A : Atoms 𝓤) (W : Given
       use2 W (later (‵ (fat fullShare T′.mir m₉ 0 (machᵀ rec)))) (S.record-back 𝓤 H A W rec m₉ (ν ∷ [])) $
       await ! tt $ move ! (1 ∷ []) $ split ! $ move ! (1 ∷ []) $ split ! $ move ! (1 ∷ []) $ split ! $
       move ! (1 ∷ []) $ split ! $ lft-end ! tt $ move ! (0 ∷ 7 ∷ []) $
-      use2 W (later (some (λ (v : Val). ‵ (S.Holds 𝓤 H A W Wr.the-row tt writesHeld n xs m₁₀ (take n xs ++ drop n xs) v))))
+      use2 W (later (some (λ (v : Val).
+      ‵ (S.Holds 𝓤 H A W Wr.the-row tt writesHeld n xs m₁₀ (take n xs ++ drop n xs) v))))
       (S.shared-back 𝓤 H A W Wr.the-row tt writesHeld n xs m₁₀ (μ ∷ []) long) $ await ! tt $ pick ! (λ v.
       fsplit ! $ move ! (1 ∷ []) $ lose ! $
       -- [_10; the tokens of κw and κo; those of κr, κm, κp; _9; the room's last bytes; _15; …; _0; …]

@@ -61,7 +61,9 @@ plan-over-requires : tie.Need-plan-over-requires
 plan-over-requires c κs = fits (c .before .before .before .before .before .before) .writes
 
 show-plan-requires : tie.Need-show-plan-requires
-show-plan-requires c κs = (fits (c .before .before .before .before .before .before .before .before .before) .writes, c .before .before .before .before .before .before .before .before .before .before .before .before .before .before .pre .3)
+show-plan-requires c κs =
+    let n = c .before .before .before .before .before .before .before .before .before in
+    (fits n .writes, start n .pre .3)
 
 same-length : tie.Need-same-length
 same-length c = search needs
@@ -78,8 +80,9 @@ returns c =
     let x : headBytes + l .steps + l .image - (headBytes + l .steps) ≡ l .image = omega arith in
     let y = length-take-le (l .room) (v .window .result) (omega (arith, v .window .ensures, fits n)) in
     let z = ap (take (l .writes)) (b .blanks .ensures) ∙ take-replicate (l .writes) writesHeld blank (fits n .writes) in
+    let e = rw (x, y, z) at (k .plan-over .ensures) in
     let shown = h .show-plan .ensures in (
-      shows-plan _ _ l (n .lengths-of .ensures) (s .pre .2) _ (rw (x, y, z) at (k .plan-over .ensures)) _ _ _ (shown .0),
+      shows-plan _ _ l (n .lengths-of .ensures) (s .pre .2) _ e _ _ _ (shown .0),
       shown .1,
     )
 

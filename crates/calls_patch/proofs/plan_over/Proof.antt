@@ -22,8 +22,8 @@ use ghost.Atoms.{Atoms, sem}
 use contract.Monad.{Fun, fact}
 use contract.Running.{givenOf, tables, tablesOf}
 use sound.WpLaws.{fmOf, WpFn-mono}
-use types.Kit.{Given, Item, ‵, raw, some, later, _⊛_, ⋆, _$_, _∵_, !, qed, by, move, drop as lose, use1, use2, use3, split}
-use types.Kit.{join, pick, rewrite, fsplit, fjoin, feqL, suffices, frame, await, done}
+use types.Kit.{Given, Item, ‵, raw, some, later, _⊛_, ⋆, _$_, _∵_, !, qed, by, move, drop as lose, use1, use2, use3}
+use types.Kit.{split, join, pick, rewrite, fsplit, fjoin, feqL, suffices, frame, await, done}
 use types.Part.{agg, whole, sub, look-in}
 use types.Run.{look, init, forget, stop, hop, fld, from, load, addr, of-opd, and-then, no-more, assigns, land, returns}
 use types.Run.{enter, alloc1, alloc0, params1, pass1, pass0, free1, free0}
@@ -267,7 +267,8 @@ module _ {M : Type 1} (𝓤 : URA M) (H : Heap 𝓤) (A : Atoms 𝓤) (W : Given
       (WpFn 𝓤 H (𝓣 .C) (𝓣 .Λ) code.function passed Left)
   walk 𝓣 known =
       qed W (all-tokens ∷ ‵ (owns (T.the-row ∷ ShrRef (named 0) κp Words ∷ ShrSlice (named 1) κm u8
-      ∷ ShrSlice (named 2) κr u8 ∷ ShrSlice (named 3) κw u8 ∷ MutSlice (named 4) κo u8 ∷ List′ ∷ usize ∷ []) a at) ∷ []) ∵
+      ∷ ShrSlice (named 2) κr u8 ∷ ShrSlice (named 3) κw u8 ∷ MutSlice (named 4) κo u8 ∷ List′ ∷ usize ∷ []) a at)
+      ∷ []) ∵
       enter ! (𝓣 .C) (𝓣 .Λ) code.function passed _ $
       alloc1 ! (λ m₀. alloc1 ! (λ m₁. alloc1 ! (λ m₂. alloc1 ! (λ m₃. alloc1 ! (λ m₄. alloc1 ! (λ m₅. alloc1 ! (λ m₆.
       alloc1 ! (λ m₇. alloc1 ! (λ m₈. alloc1 ! (λ m₉. alloc1 ! (λ m₁₀. alloc1 ! (λ m₁₁. alloc1 ! (λ m₁₂.

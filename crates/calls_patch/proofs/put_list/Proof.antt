@@ -1,5 +1,5 @@
--- `calls_patch::put_list` meets its contract. The loop's invariant: with the writes that are left stored too, the buffer
--- is the one with all stored. Assumes nothing.
+-- `calls_patch::put_list` meets its contract. The loop's invariant: with the writes that are left stored too, the
+-- buffer is the one with all stored. Assumes nothing.
 use mathlib.Core.Path.{_≡_, refl}
 use Prim.Native.Nat.{_+_, _-_, _*_, _≤_}
 use native.Mathlib.Omega.{arith}
@@ -55,7 +55,7 @@ loop-again c =
       omega arith,
       omega arith,
       rw (p .put-write .ensures) (write-more _ (o .out) (s .args .at) (o .k) (s .args .n) (s .args .t3) _
-      (omega arith) (omega arith) (o .inv .4)),
+          (omega arith) (omega arith) (o .inv .4)),
     )
 
 same-length : tie.Need-same-length Inv-loop μ-loop

@@ -79,10 +79,12 @@ run-requires : tie.Need-run-requires
 run-requires c κs = search needs
 
 sub-patch-call : tie.Need-sub-patch-call
-sub-patch-call c = let r = c .before .before .before .before .before .before .before .before .before .before in omega (arith, few r, start (lengths r) .pre .2)
+sub-patch-call c =
+    let r = c .before .before .before .before .before .before .before .before .before .before in
+    omega (arith, few r, start (lengths r) .pre .2)
 
 part-patch-call-start : tie.Need-part-patch-call-start
-part-patch-call-start c = let r = c .before .before .before .before .before .before .before .before .before .before in omega (arith, few r, start (lengths r) .pre .2)
+part-patch-call-start c = sub-patch-call c
 
 part-patch-call-end : tie.Need-part-patch-call-end
 part-patch-call-end c = search needs
@@ -115,7 +117,8 @@ returns c =
     let n = lengths r in
     let call = now (start n .args .call) in
     let z : headBytes + n .lengths-of .result .steps - headBytes ≡ n .lengths-of .result .steps = omega arith in
-    let e = ap (λ (k : ℕ). take k (drop headBytes call)) (z ∙ ap (λ (l : Lengths). l .steps) (n .lengths-of .ensures)) in
+    let i = z ∙ ap (λ (l : Lengths). l .steps) (n .lengths-of .ensures) in
+    let e = ap (λ (k : ℕ). take k (drop headBytes call)) i in
     (run-patch _ _ _ _ e (enough r) _ _ _ _ _ (r .run .ensures .run) _ _ (x .patch-call .ensures .0) (room x), room x)
 
 pub session-spec : {M : Type 1} → statement M

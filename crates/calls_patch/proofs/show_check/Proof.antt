@@ -29,8 +29,11 @@ add-result c = search needs
 same-length-2 : tie.Need-same-length-2
 same-length-2 c =
     let s = c .before .before .before .before .before .before in
-    omega (arith, length-set (set (now (s .args .out)) 0 (s .args .c .number)) 1 (s .args .c .verdict),
-    length-set (now (s .args .out)) 0 (s .args .c .number))
+    omega (
+      arith,
+      length-set (set (now (s .args .out)) 0 (s .args .c .number)) 1 (s .args .c .verdict),
+      length-set (now (s .args .out)) 0 (s .args .c .number),
+    )
 
 returns-2 : tie.Need-returns-2
 returns-2 c =

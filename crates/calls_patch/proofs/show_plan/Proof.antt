@@ -1,11 +1,17 @@
 -- `calls_patch::show_plan` meets its contract. Assumes nothing.
+use mathlib.Core.Path.{_≡_}
 use native.Mathlib.Omega.{arith}
 use denote.Ref.{now}
-use lib.ListN.{set, length-set}
+use lib.ListN.{length, set, length-set}
 use Rattle.calls_patch.proofs.Shown.{listed, plan-shown}
 use borrow.Author.Needs.{needs}
 use Rattle.calls_patch.proofs.show_plan.Statement.{statement}
 use Rattle.calls_patch.proofs.show_plan.Tie as tie
+
+-- the first store keeps the length
+stored : (c : tie.Start)
+    → length (set (now (c .args .out)) 0 (c .args .p .planning .number)) ≡ length (now (c .args .out))
+stored c = length-set (now (c .args .out)) 0 (c .args .p .planning .number)
 
 slice-write-out : tie.Need-slice-write-out
 slice-write-out c = search needs
@@ -17,7 +23,7 @@ add-put : tie.Need-add-put
 add-put c = search needs
 
 put-requires-2 : tie.Need-put-requires-2
-put-requires-2 c κs = let s = c .before .before .before .before .before .before .before .before in omega (arith, length-set (now (s .args .out)) 0 (s .args .p .planning .number))
+put-requires-2 c κs = omega (arith, stored (c .before .before .before .before .before .before .before .before))
 
 mul-put-list : tie.Need-mul-put-list
 mul-put-list c = search needs
@@ -28,7 +34,7 @@ add-put-list c = search needs
 put-list-requires : tie.Need-put-list-requires
 put-list-requires c κs =
     let s = c .before .before .before .before .before .before .before .before .before .before .before .before in
-    (omega (arith, length-set (now (s .args .out)) 0 (s .args .p .planning .number), s .pre), s .pre .0)
+    (omega (arith, stored s, s .pre), s .pre .0)
 
 mul-result : tie.Need-mul-result
 mul-result c = search needs
@@ -43,7 +49,9 @@ add-result-2 : tie.Need-add-result-2
 add-result-2 c = search needs
 
 same-length : tie.Need-same-length
-same-length c = let s = c .before .before .before .before .before .before .before .before .before .before .before .before .before .before .before in omega (arith, length-set (now (s .args .out)) 0 (s .args .p .planning .number))
+same-length c =
+    let q = c .before .before .before .before .before .before .before in
+    omega (arith, stored (q .before .before .before .before .before .before .before .before))
 
 returns : tie.Need-returns
 returns c =
