@@ -6,7 +6,8 @@ format is that of docs/CALLS.md. Kind 1 compares two images; the calls of the
 text packets, kinds 6 and 7, are made by tests/text_vectors.py, those of frames,
 kinds 8 and 9, by tests/frame_calls.py, those of text steps, kind 10, by
 tests/text_step_calls.py, those of sessions with a protected stretch, kind 11,
-by tests/protected_calls.py, those of sessions over a record as it is, kind 14,
+by tests/protected_calls.py, those of patch checks and patch plans, kinds 12 and
+13, by tests/patch_calls.py, those of sessions over a record as it is, kind 14,
 by tests/record_calls.py.
 
     python3 tests/calls_vectors.py           write crates/calls_main/stdin, stdout
@@ -23,6 +24,7 @@ import sys
 from pathlib import Path
 
 import frame_calls
+import patch_calls
 import protected_calls
 import record_calls
 import stored
@@ -208,18 +210,21 @@ def make_files():
     others = [*text_vectors.cases(), *frame_calls.cases()]
     steps = [*text_step_calls.cases()]
     sessions = [*protected_calls.cases()]
+    patches = [*patch_calls.cases()]
     records = [*record_calls.cases()]
+    later = steps + sessions + patches + records
     cut = call(image(8), image(8), 2)[:-1]
     files = {
         FOLDER / "stdin": b"".join([*(call(*case) for case in cases),
-                                    *(made for made, _ in others + steps + sessions + records), cut]),
+                                    *(made for made, _ in others + later), cut]),
         FOLDER / "stdout": b"".join([*(answer(*one) for one in answers),
-                                     *(given for _, given in others + steps + sessions + records)]),
+                                     *(given for _, given in others + later)]),
     }
     numbers = [number for number, _, _ in answers] + [given[0] for _, given in others]
     counts = ", ".join(f"{numbers.count(number)} number {number}" for number in sorted(set(numbers)))
     return files, (f"{len(numbers)} calls and a cut one: {counts}; {len(steps)} text steps between other steps; "
-                   f"{len(sessions)} sessions with a protected stretch; {len(records)} over a record as it is")
+                   f"{len(sessions)} sessions with a protected stretch; {len(patches)} patch checks and plans; "
+                   f"{len(records)} sessions over a record as it is")
 
 
 if __name__ == "__main__":

@@ -147,7 +147,7 @@ text_step_vectors() {
         python3 tests/text_step_vectors.py valgrind --quiet --error-exitcode=9 "$logs/text_step_run"
 }
 
-# The calls of patches, which calls_main has not, through the archive.
+# The stored calls of patches through the archive.
 patch_run() {
     c11 -O2 -Iinclude tests/patch_run.c "$library" -o "$logs/patch_run" &&
         python3 tests/patch_calls.py valgrind --quiet --error-exitcode=9 "$logs/patch_run"

@@ -1,5 +1,5 @@
 #!/usr/bin/env python3
-"""Calls that check and plan patches, document 02, Twelve. The program calls_main has not got them yet.
+"""Calls that check and plan patches, document 02, Twelve; tests/calls_vectors.py stores them.
 
     python3 tests/patch_calls.py                   say how many there are
     python3 tests/patch_calls.py PROGRAM ..        run them by a program and compare

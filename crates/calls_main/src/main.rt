@@ -15,7 +15,7 @@ fn read_call(input: &mut [u8]) -> usize
     let mut have: usize = 0;
     let mut parts: usize = 3;
     while parts > 0 {
-        let want = calls_record::size(&input[..have]);
+        let want = calls_patch::size(&input[..have]);
         if want <= have {
             return have;
         }
@@ -30,7 +30,7 @@ fn answer_call(input: &mut [u8], output: &mut [u8]) -> bool
     requires { ⌜ callMost ≤ length (now input) ⌝ }
 {
     let have = read_call(input);
-    let done = calls_record::answer(&input[..have], output);
+    let done = calls_patch::answer(&input[..have], output);
     let filled = done.filled;
     io::write_all(STDOUT_FILENO, &output[..filled]) && done.more
 }

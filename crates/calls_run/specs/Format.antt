@@ -28,10 +28,11 @@ listHeld = imageMost
 abbrev pub headBytes : ℕ
 headBytes = 1 + 3 * wordBytes
 
--- the most that a call takes, and that an answer does: number, count, list
+-- the most that a call takes: one of kind 12 (`calls_patch`), a head of 77 bytes, steps, an image and an offer
 abbrev pub callMost : ℕ
-callMost = headBytes + 2 * imageHeld
+callMost = 77 + 1024 + imageHeld + 12 * 16385
 
+-- the most that an answer takes: number, count, list
 abbrev pub answerMost : ℕ
 answerMost = 1 + wordBytes + wordBytes * listHeld
 

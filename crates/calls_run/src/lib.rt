@@ -28,9 +28,10 @@ const IMAGE_HELD: usize = image_diff::IMAGE_MOST + 1;
 
 const LIST_HELD: usize = image_diff::IMAGE_MOST;
 
-// The most that a call takes, and that an answer does: number, count, list.
-pub const CALL_MOST: usize = HEAD + 2 * IMAGE_HELD;
+// The most that a call takes: one of kind 12 (`calls_patch`), a head of 77 bytes, steps, an image and an offer.
+pub const CALL_MOST: usize = 77 + 1024 + IMAGE_HELD + 12 * 16385;
 
+// The most that an answer takes: number, count, list.
 pub const ANSWER_MOST: usize = 1 + WORD + WORD * LIST_HELD;
 
 // What another kind writes.

@@ -144,19 +144,19 @@ module _ (call : List ℕ) where
     unfolding setupBy setupIn
     setup-of b s f t p a n mem regs = rw (b, s, f, t, p, a, n)
 
-  module _ (x m : ℕ) (w : x ≡ wordAt call 5) (h : m ≡ min x windowHeld) where
-    memory-lent : (mem : List ℕ) → mem ≡ tab windowHeld (λ i. i) → take m mem ≡ lentMemory call
-    unfolding lentMemory
-    memory-lent mem e =
-        ap (take m) e ∙ take-tab m windowHeld (λ i. i) (omega (arith, h))
-        ∙ ap (λ (k : ℕ). tab k (λ i. i)) (h ∙ ap (λ (k : ℕ). min k windowHeld) w)
+  module _ (y n : ℕ) (v : y ≡ wordAt call 25) (g : n ≡ min y maxProcesses) where
+    pub registers-lent : (regs : List ℕ) → regs ≡ replicate (maxProcesses * blockSize) 0
+        → take (n * blockSize) regs ≡ lentRegisters call
+    unfolding lentRegisters
+    registers-lent regs e =
+        registers-part y n g regs e ∙ ap (λ (k : ℕ). replicate (min k maxProcesses * blockSize) 0) v
 
-    module _ (y n : ℕ) (v : y ≡ wordAt call 25) (g : n ≡ min y maxProcesses) where
-      registers-lent : (regs : List ℕ) → regs ≡ replicate (maxProcesses * blockSize) 0
-          → take (n * blockSize) regs ≡ lentRegisters call
-      unfolding lentRegisters
-      registers-lent regs e =
-          registers-part y n g regs e ∙ ap (λ (k : ℕ). replicate (min k maxProcesses * blockSize) 0) v
+    module _ (x m : ℕ) (w : x ≡ wordAt call 5) (h : m ≡ min x windowHeld) where
+      memory-lent : (mem : List ℕ) → mem ≡ tab windowHeld (λ i. i) → take m mem ≡ lentMemory call
+      unfolding lentMemory
+      memory-lent mem e =
+          ap (take m) e ∙ take-tab m windowHeld (λ i. i) (omega (arith, h))
+          ∙ ap (λ (k : ℕ). tab k (λ i. i)) (h ∙ ap (λ (k : ℕ). min k windowHeld) w)
 
       pub writes-lent : (mem regs : List ℕ) → mem ≡ tab windowHeld (λ i. i)
           → regs ≡ replicate (maxProcesses * blockSize) 0 → (k : ℕ) (before after : List ℕ)

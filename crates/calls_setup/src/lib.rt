@@ -26,7 +26,7 @@ const BYTES: usize = 60;
 
 const WINDOW: usize = 64;
 
-const REGISTERS: usize = Target::PROCESSES * Process::BLOCK;
+pub const REGISTERS: usize = Target::PROCESSES * Process::BLOCK;
 
 // The number of the eight bytes at an index, high-order first.
 fn long_at(s: &[u8], at: usize) -> u64
@@ -74,7 +74,7 @@ pub fn size(call: &[u8]) -> usize
 }
 
 // The setup of a call, over the buffers lent to it.
-fn setup(call: &[u8], mem: &[u8], regs: &[u8]) -> Done
+pub fn setup(call: &[u8], mem: &[u8], regs: &[u8]) -> Done
     requires { ⌜ setupBytes < length (now call) ⌝ }
     ensures { λ r. ⌜ ((words : List ℕ) → outcome (r .number) (r .answer)
         (world (viewOf (r .target) words) (now (mem .entry)) (now (regs .entry))) []

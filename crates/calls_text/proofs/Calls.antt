@@ -19,10 +19,10 @@ use Rattle.calls_text.specs.Format.{isWrite, isRead, lengthOf, packetOf,
 use Rattle.calls_text.specs.Format.{writtenBytes, foundBytes, textAnswer, answerWithin}
 
 -- the first of a list of equal elements
-pub take-replicate : (k n x : ℕ) → k ≤ n → take k (replicate n x) ≡ replicate k x
+pub take-replicate : {A : Type 0} (k n : ℕ) (x : A) → k ≤ n → take k (replicate n x) ≡ replicate k x
 take-replicate zero n x h = refl
 take-replicate (suc k) zero x h = absurd (omega arith)
-take-replicate (suc k) (suc n) x h = ap (λ (l : List ℕ). x ∷ l) (take-replicate k n x (omega arith))
+take-replicate {A = A} (suc k) (suc n) x h = ap (λ (l : List A). x ∷ l) (take-replicate k n x (omega arith))
 
 module _ (call : List ℕ) where
   -- ---- kinds, by the first byte

@@ -15,7 +15,8 @@ ghost use lib.ListN.{getD, take, drop, replicate};
 ghost use Rattle.common.specs.Every.{every};
 ghost use Rattle.common.specs.First.{firstOf};
 ghost use Rattle.target_fit.specs.Arrays.{freeId};
-ghost use Rattle.target_fit.specs.Fit.{windowFit, processesFit, marksFit, currentFit, siteFit, fitOf, unfitScan, scanOf};
+ghost use Rattle.target_fit.specs.Fit.{windowFit, processesFit, marksFit, currentFit, siteFit, fitOf};
+ghost use Rattle.target_fit.specs.Fit.{unfitScan, scanOf};
 ghost use Rattle.target_scan.specs.Parts.{usedTest, gathered, scanEntries, handDepth};
 ghost use Rattle.memory.specs.Head.{house};
 ghost use Rattle.memory.specs.Overlay.{freeSite};
@@ -120,8 +121,8 @@ fn unfit() -> Scan
     }
 }
 
-// What the walk over the entries finds beside the arrays: whether they are fit and, where they are, how many places they
-// hold.
+// What the walk over the entries finds beside the arrays: whether they are fit and, where they are, how many places
+// they hold.
 struct Entries {
     fit: bool,
     held: usize,

@@ -70,9 +70,9 @@ returns c =
     let a = c .before .before .before .before in
     let m = a .before .before .before .before in
     let w = m .before .before .before in
-    writes-lent _ _ _ (w .word-at .ensures) (m .before .before .at-most .ensures) _ _ (m .before .word-at2 .ensures)
-    (m .at-most2 .ensures) _ _ (w .before .before .before .start .ensures .mem) (w .before .zeros .ensures) _ _ _
-    (a .made .ensures)
+    writes-lent _ _ _ (m .before .word-at2 .ensures) (m .at-most2 .ensures) _ _ (w .word-at .ensures)
+    (m .before .before .at-most .ensures) _ _ (w .before .before .before .start .ensures .mem)
+    (w .before .zeros .ensures) _ _ _ (a .made .ensures)
 
 pub lend-spec : {M : Type 1} → statement M
 lend-spec =

@@ -1,4 +1,5 @@
 -- `calls_text::write` meets its contract. Assumes nothing.
+use Prim.Native.Nat.{ℕ}
 use mathlib.Core.Path.{sym}
 use native.Mathlib.Omega.{arith}
 use lib.ListN.{length-take}
@@ -26,7 +27,7 @@ returns : tie.Need-returns
 returns c =
     let w = c .before .before .before in
     let s = w .before .before .before .before .before in
-    rw (take-replicate (s .args .n) 64 0xee (s .pre .1)) at (w .write-into .ensures)
+    rw (take-replicate {A = ℕ} (s .args .n) 64 0xee (s .pre .1)) at (w .write-into .ensures)
 
 pub write-spec : {M : Type 1} → statement M
 write-spec =

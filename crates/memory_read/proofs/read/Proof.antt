@@ -35,7 +35,8 @@ returns c =
     let k = n .before .before in
     let a = k .before .before .before .args in
     l .lay-all .ensures
-    ∙ rw (n .count .ensures, k .straight .ensures ∙ copied-zeros (now (a .part)) 9) (read-laid 2 _ _ (now (a .part)) _ 9)
+    ∙ rw (n .count .ensures, k .straight .ensures ∙ copied-zeros (now (a .part)) 9)
+    (read-laid 2 _ _ (now (a .part)) _ 9)
 
 returns-2 : tie.Need-returns-2
 returns-2 c =

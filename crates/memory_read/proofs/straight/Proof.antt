@@ -81,7 +81,7 @@ returns : tie.Need-returns Inv-loop μ-loop
 returns c =
     let o = c .before in
     let all : min (o .loop .i) (length (now (o .before .args .from))) ≡ min 9 (length (now (o .before .args .from)))
-        = omega arith in
+    = omega arith in
     o .loop .inv .3 ∙ ap (paste (now (o .before .args .to)) 0 (now (o .before .args .from))) all
 
 pub straight-spec : {M : Type 1} → statement M
