@@ -1,6 +1,6 @@
 -- How long a call of a patch is, and what it answers, by what its bytes are. Assumes nothing.
 use mathlib.Core.Path.{_≡_, refl, sym, ap, _∙_}
-use mathlib.Core.Bool.{Bool, true, false, cond, _&&_, _||_}
+use mathlib.Core.Bool.{Bool, true, false, _&&_, _||_}
 use mathlib.Core.List.{List, [], _∷_}
 use Prim.Native.Nat.{ℕ, _+_, _*_, _<_, _≤_}
 use native.Mathlib.Omega.{arith}
@@ -10,7 +10,7 @@ use lib.ListN.{length, getD, set}
 use Rattle.common.proofs.Cases.{on-less, on-test, either}
 use Rattle.common.proofs.Same.{and-both, true-or-false}
 use Rattle.calls_run.specs.declared.Answered.{Answered}
-use Rattle.calls_run.specs.Format.{imageHeld, answerMost, callMost, output}
+use Rattle.calls_run.specs.Format.{imageHeld, answerMost, output}
 use Rattle.calls_run.specs.Written.{Writes, Answers}
 use Rattle.calls_run.proofs.Words.{writes-front}
 use Rattle.calls_record.specs.Format.{callSize as otherSize, answerWithin as otherAnswer}

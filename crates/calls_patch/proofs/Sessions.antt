@@ -1,9 +1,9 @@
 -- What a call of a patch is lent and what it writes: the setup's number, what the steps write, the check or the plan.
 -- Assumes nothing.
-use mathlib.Core.Path.{_≡_, refl, sym, ap, _∙_}
+use mathlib.Core.Path.{_≡_, refl, ap, _∙_}
 use mathlib.Core.Bool.{true, false}
 use mathlib.Core.List.{List, [], _∷_}
-use Prim.Native.Nat.{ℕ, _+_, _*_, _%_, _<_, _≤_, min}
+use Prim.Native.Nat.{ℕ, _+_, _*_, _%_, _≤_, min}
 use native.Mathlib.Omega.{arith}
 use lib.ListN.{length, set, take, drop, replicate}
 use Rattle.common.specs.Bytes.{wordAt}
@@ -26,7 +26,7 @@ use Rattle.program_run.proofs.Runs.{room-enough}
 use Rattle.program_run.proofs.Writes.{writes-stored, writes-part, shown-refused, shown-whole}
 use Rattle.calls_run.specs.Written.{Writes}
 use Rattle.calls_step.proofs.Parts.{Joined, behind, run-few, at-front}
-use Rattle.calls_setup.specs.Format.{setupIn, lentRegisters}
+use Rattle.calls_setup.specs.Format.{setupIn}
 use Rattle.calls_setup.proofs.Calls.{take-tab, registers-lent}
 use Rattle.calls_patch.specs.declared.Lengths.{Lengths}
 use Rattle.calls_patch.specs.Format.{headBytes, memoryHeld, isCheck, lengthsOf, stepsOf, writesIn, lentMemory}

@@ -23,11 +23,11 @@ ghost use Rattle.rules.specs.Outcome.{world};
 ghost use Rattle.rules.specs.Step.{setupBy};
 ghost use Rattle.program_run.specs.Encoding.{stepMost};
 ghost use Rattle.program_run.specs.Written.{Writes as Puts};
-ghost use Rattle.calls_run.specs.Format.{answerMost, callMost};
+ghost use Rattle.calls_run.specs.Format.{imageHeld, answerMost, callMost};
 ghost use Rattle.calls_run.specs.Written.{Writes, Answers};
 ghost use Rattle.calls_setup.specs.Format.{setupIn};
 ghost use Rattle.calls_patch.specs.Format.{headBytes, writeBytes, stepsHeld, writesHeld, memoryHeld, checkMost};
-ghost use Rattle.calls_patch.specs.Format.{planMost, isCheck, isPatch, lengthsOf, areHeld, wantedOf, offerOf};
+ghost use Rattle.calls_patch.specs.Format.{planMost, isCheck, isPatch, lengthsOf, areHeld};
 ghost use Rattle.calls_patch.specs.Format.{writeAt, writesIn, offered, patchSize, callSize, blank, writeOut};
 ghost use Rattle.calls_patch.specs.Format.{writesOut, checkBytes, planBytes, patchBytes, sessionBytes};
 ghost use Rattle.calls_patch.specs.Format.{madeBytes, patchAnswer, patchWithin, answerWithin};
@@ -297,7 +297,7 @@ fn show_plan(p: Listing, n: usize, out: &mut [u8]) -> usize
 
 // A room for the plain window: a call is lent as much of it as it asks for, and what it holds is of no account.
 fn window() -> [u8; IMAGE_HELD]
-    ensures { λ r. ⌜ length r ≡ 65537 ⌝ }
+    ensures { λ r. ⌜ length r ≡ imageHeld ⌝ }
 {
     [0; IMAGE_HELD]
 }

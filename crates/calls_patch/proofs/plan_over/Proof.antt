@@ -18,7 +18,7 @@ use base.Fml.{Lft, GName, Share, Fml, ftrue, fat, flft, flent}
 use prog.Memory.{Memory}
 use prog.Routine.{Routine}
 use prog.Wp.{Heap, WpFn, Tables}
-use ghost.Atoms.{Atoms, sem}
+use ghost.Atoms.{Atoms}
 use contract.Monad.{Fun, fact}
 use contract.Running.{givenOf, tables, tablesOf}
 use sound.WpLaws.{fmOf, WpFn-mono}
@@ -32,7 +32,7 @@ use denote.Exit.{yes}
 use denote.RattleType.{RattleType, owns}
 use denote.Array.{Array, array-vals, array-tells, array-lawful, array-makes}
 use denote.Laws.{Is, shows}
-use denote.Memory.{lone, partAt}
+use denote.Memory.{partAt}
 use denote.Plain.{uint-vals, uint-tells}
 use denote.Ref.{RefT, ShrRef, ptr-vals, shr-tells, now}
 use denote.Slice.{sliceVal, ShrSlice, MutSlice, Room, finally, slice-vals, shr-slice-tells, mut-slice-tells}

@@ -1,6 +1,5 @@
 -- `calls_patch::size` meets its contract. Assumes nothing.
 use mathlib.Core.Path.{sym, _∙_}
-use native.Mathlib.Omega.{arith}
 use Rattle.calls_patch.proofs.Calls.{size-patch, size-other}
 use borrow.Author.Needs.{needs}
 use Rattle.calls_patch.proofs.size.Statement.{statement}
