@@ -801,15 +801,18 @@ def scattered():
         yield call
 
 
-def calls():
-    for made in (*DIRECTED, scattered):
+def in_turn(makers):
+    for made in makers:
         yield from made()
+
+
+def calls():
+    return in_turn((*DIRECTED, scattered))
 
 
 def cases():
     """Every call with its answer."""
-    for call in calls():
-        yield call.made()
+    return (call.made() for call in calls())
 
 
 # ---- Counted, or run. ----

@@ -18,7 +18,7 @@ import sys
 
 import protected_calls
 from protected_calls import BLOCK, HELD, HELD_MEMORY, HELD_PROCESSES, READY, RESTART, SCHEDULE, STATE
-from protected_calls import STOPPED, TOP, TRAP, TRAP_EVENT, any_step, any_text, counted_or_run, word
+from protected_calls import STOPPED, TOP, TRAP, TRAP_EVENT, any_step, any_text, counted_or_run, in_turn, word
 
 KIND = 14
 SEED, RANDOM_CALLS = 29, 400
@@ -545,14 +545,12 @@ def scattered():
 
 
 def calls():
-    for made in (*DIRECTED, scattered):
-        yield from made()
+    return in_turn((*DIRECTED, scattered))
 
 
 def cases():
     """Every call with its answer."""
-    for call in calls():
-        yield call.made()
+    return (call.made() for call in calls())
 
 
 # ---- Counted, or run. ----
