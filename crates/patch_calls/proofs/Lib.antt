@@ -1,4 +1,0 @@
-pub mod Opens
-pub mod Shares
-pub mod CheckWalk
-pub mod PlanWalk

@@ -1,2 +1,0 @@
-pub mod PassOn
-pub mod ThinWhole
