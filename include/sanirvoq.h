@@ -5,7 +5,7 @@
  * processes, one call a time, and does what the answer says. docs/PROTOCOL.md describes the line, examples/kernel.c is
  * a whole session.
  *
- * Link libsanirvoq.a. `rt staticlib sanirvoq` writes it for x86-64 (System V calling convention), and
+ * Link libsanirvoq.a. `tools/build.sh sanirvoq` writes it for x86-64 (System V calling convention), and
  * tools/build_archives.sh, from the same proved crate, for rv32imac (ilp32) and rv64imac (lp64) too. Take header and
  * archive of one commit: the archive cannot tell which header a kernel was compiled with.
  *

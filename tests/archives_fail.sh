@@ -16,13 +16,13 @@ no_rt|rt, the Rattle toolchain, is not there
 no_python|python3 is not there
 another_machine|the toolchain compiles on x86-64 only, and this is aarch64
 kit_without_clang|no clang at
-staticlib_fails|rt staticlib sanirvoq failed: error: it was not proved
-not_proved|rt staticlib did not say '\''logic=proved'\''
-clang_not_run|rt staticlib did not run the clang of its kit: the module cannot be had this way
-clang_run_twice|rt staticlib ran clang more than once: which module is it?
-no_bitcode|rt staticlib gave clang no bitcode file: the module cannot be had this way
-empty_bitcode|rt staticlib gave clang no bitcode file: the module cannot be had this way
-no_archive|rt staticlib left no archive for x86-64
+lib_fails|rt lib failed: error: it was not proved
+not_proved|rt lib did not say '\''logic=proved'\''
+clang_not_run|rt lib did not run the clang of its kit: the module cannot be had this way
+clang_run_twice|rt lib ran clang more than once: which module is it?
+no_bitcode|rt lib gave clang no bitcode file: the module cannot be had this way
+empty_bitcode|rt lib gave clang no bitcode file: the module cannot be had this way
+no_archive|rt lib left no archive for x86-64
 unreadable_module|clang cannot read the module
 module_refused|the module cannot be turned into one for rv32imac
 second_compilation_fails|clang cannot compile the module for rv64imac
@@ -40,8 +40,8 @@ make_commands() {
 
 # A kit whose clang copies its last input to the file behind -o, and whose llvm-ar copies an object to the archive.
 make_kit() {
-    local bin=$1/on/x86_64/toolchain/bin
-    mkdir -p "$1/docs" "$1/logic" "$1/on/x86_64/logic" "$1/on/x86_64/toolchain/lib" "$bin"
+    local bin=$1/toolchain/bin
+    mkdir -p "$1/bin" "$1/logic" "$1/toolchain/lib" "$bin"
     cat > "$bin/clang" << 'END'
 #!/bin/sh
 case "$FAULT $*" in
@@ -61,31 +61,30 @@ END
     chmod +x "$bin/clang" "$bin/llvm-ar"
 }
 
-# An rt that makes a module, runs the clang of the kit that it is told of, and says that all is proved.
+# The kit's rt, which makes a module, runs the clang of the kit that its own file lies in, and says that all is proved.
 make_rt() {
-    mkdir -p "$1"
     cat > "$1/rt" << 'END'
 #!/bin/sh
 if [ "$1" = doc ]; then
-    echo "$KIT/docs/START-HERE.md"
+    echo "$KIT/START-HERE.md"
     exit
 fi
-clang=$RATTLE_HOME/on/x86_64/toolchain/bin/clang
-mkdir -p target/staticlib
+clang=$(dirname "$0")/../toolchain/bin/clang
+mkdir -p out
 {
     printf '%s\n' 'define void @f() #0 {' 'start:'
     [ "$FAULT" != module_refused ] || echo '  call void asm "", ""()'
     printf '%s\n' '  ret void' '}' '' 'attributes #0 = { nounwind "target-cpu"="x86-64" }'
-} > target/module.bc
-[ "$FAULT" != empty_bitcode ] || : > target/module.bc
-[ "$FAULT" != no_bitcode ] || mv target/module.bc target/module.ll
-if [ "$FAULT" = staticlib_fails ]; then
+} > out/module.bc
+[ "$FAULT" != empty_bitcode ] || : > out/module.bc
+[ "$FAULT" != no_bitcode ] || mv out/module.bc out/module.ll
+if [ "$FAULT" = lib_fails ]; then
     echo 'error: it was not proved'
     exit 1
 fi
-[ "$FAULT" = clang_not_run ] || "$clang" -c target/module.?? -o target/staticlib/module.o
-[ "$FAULT" != clang_run_twice ] || "$clang" -c target/module.bc -o target/staticlib/module.o
-[ "$FAULT" = no_archive ] || echo archive > target/staticlib/libsanirvoq.a
+[ "$FAULT" = clang_not_run ] || "$clang" -c out/module.?? -o out/module.o
+[ "$FAULT" != clang_run_twice ] || "$clang" -c out/module.bc -o out/module.o
+[ "$FAULT" = no_archive ] || echo archive > out/libsanirvoq.a
 if [ "$FAULT" = not_proved ]; then
     echo 'logic=not-proved'
 else
@@ -98,13 +97,14 @@ END
 # prepare FOLDER NAME: a copy of the script with an archive of an earlier run, and all that it calls
 prepare() {
     local folder=$1 name=$2
-    mkdir -p "$folder/repository/tools" "$folder/repository/target/archives/rv32imac" || return
+    mkdir -p "$folder/repository"/{tools,crates/sanirvoq,target/archives/rv32imac} || return
     cp "$repository"/tools/{build_archives.sh,retarget_module.py} "$folder/repository/tools/" || return
     echo old > "$folder/repository/target/archives/rv32imac/libsanirvoq.a"
     make_commands "$folder/commands"
     make_kit "$folder/kit"
-    make_rt "$folder/rt"
-    ln -s "$(command -v mv)" "$folder/rt/mv"
+    make_rt "$folder/kit/bin"
+    mkdir "$folder/rt"
+    ln -s "$folder/kit/bin/rt" "$(command -v mv)" "$folder/rt/"
     case $name in
     no_rt) rm "$folder/rt/rt" ;;
     no_python) rm "$folder/commands/python3" ;;
@@ -113,7 +113,7 @@ prepare() {
         printf '%s\n' '#!/bin/sh' 'echo aarch64' > "$folder/commands/uname"
         chmod +x "$folder/commands/uname"
         ;;
-    kit_without_clang) rm "$folder/kit/on/x86_64/toolchain/bin/clang" ;;
+    kit_without_clang) rm "$folder/kit/toolchain/bin/clang" ;;
     esac
 }
 
@@ -134,11 +134,9 @@ judge() {
 
 # one NAME SAID
 one() {
-    local folder status home
+    local folder status
     folder=$(mktemp -d) && prepare "$folder" "$1" || return
-    # Where nothing is wrong, rt says where its kit is; else RATTLE_HOME does.
-    home=${2:+RATTLE_HOME=$folder/kit}
-    env -i PATH="$folder/rt:$folder/commands" FAULT="$1" KIT="$folder/kit" ${home:+"$home"} \
+    env -i PATH="$folder/rt:$folder/commands" FAULT="$1" KIT="$folder/kit" \
         "$folder/repository/tools/build_archives.sh" > "$folder/said" 2>&1
     status=$?
     cat "$folder/said"

@@ -1,9 +1,9 @@
 #!/usr/bin/env bash
 # Tests the bench (python/): its types, and as a person uses it, over real lines and a real terminal.
 #     tests/bench.sh [WORDS FOR PYTEST]
-# Takes libsanirvoq.a of the folder SANIRVOQ_LIB, else of target/staticlib, where `rt staticlib sanirvoq` puts it. The
-# tests of the program of document 01 need target/bin/program_main (`rt check program_main`), those of the head under
-# qemu target/head/head.elf (examples/head/build.sh); what is missing fails here, with the command that makes it.
+# Takes libsanirvoq.a of the folder SANIRVOQ_LIB, else of target/staticlib, where `tools/build.sh sanirvoq` puts it. The
+# tests of the program of document 01 need target/bin/program_main (`tools/build.sh program_main`), those of the head
+# under qemu target/head/head.elf (examples/head/build.sh); what is missing fails here, with the command that makes it.
 # Needs on Debian 12 the packages of all tests:
 #     apt-get update && apt-get install -y $(cat tests/packages.txt)
 # The last line is 'N passed, M failed'; exit status 1 unless M is 0.

@@ -1,8 +1,8 @@
 #!/usr/bin/env bash
 # Checks the proved stub from outside, as kernels in C and Rust call it. Run it after the gate (.ci/run).
 #     tests/outside.sh
-# Makes libsanirvoq.a and, for the benchmark, libbench_read.a in target/staticlib from what the gate proved, or takes
-# those of the folder SANIRVOQ_LIB.
+# Makes libsanirvoq.a and, for the benchmark, libbench_read.a in target/staticlib, or takes those of the folder
+# SANIRVOQ_LIB; and the programs that it runs, in target/bin (tools/build.sh).
 # A check prints 'ok NAME' or 'FAILED NAME'; what it wrote is in target/outside/NAME.log. None is left out: where a
 # part of the repository, a program of the gate or a tool is missing, its checks fail.
 # Needs rt, cargo with clippy and rustfmt (by rustup), and on Debian 12 the packages of all tests:
@@ -84,8 +84,10 @@ under_valgrind() {
     valgrind --error-exitcode=9 --leak-check=full --errors-for-leak-kinds=definite "$@"
 }
 
+# The archives, and the programs that the checks of tools/ and of docs/ run.
 library() {
-    { [ -n "${SANIRVOQ_LIB:-}" ] || { rt staticlib sanirvoq && rt staticlib bench_read; }; } && ls -l "$library"
+    { [ -n "${SANIRVOQ_LIB:-}" ] || tools/build.sh sanirvoq bench_read; } && ls -l "$library" &&
+        tools/build.sh program_main calls_main
 }
 
 # The header alone, as in a kernel with no C library: LANGUAGE STANDARD.

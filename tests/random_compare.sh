@@ -1,12 +1,12 @@
 #!/usr/bin/env bash
 # Runs the proved program and the independent implementation on the same random steps and compares what they write.
 #     tests/random_compare.sh [COUNT [SEED]]        1,000,000 steps of seed 7 unless given
-# Needs target/bin/program_main (made by `rt check program_main` or by the gate) and cargo.
+# Needs target/bin/program_main (made by `tools/build.sh program_main`) and cargo.
 set -euo pipefail
 cd "$(dirname "$0")/.."
 count=${1:-1000000}
 seed=${2:-7}
-[ -x target/bin/program_main ] || rt check program_main
+[ -x target/bin/program_main ] || tools/build.sh program_main
 cargo build --release --offline --quiet --manifest-path rust/Cargo.toml --target-dir rust/target \
     --package steps --package reference
 room=$(mktemp -d)

@@ -221,9 +221,9 @@ class Command(unittest.TestCase):
             rt = Path(room, "rt")
             rt.write_text("#!/bin/sh\nexit 1\n")
             rt.chmod(0o755)
-            done = tool("--build", env={**os.environ, "PATH": room})
+            done = tool("--build", env={**os.environ, "PATH": f"{room}:{os.environ['PATH']}"})
             self.assertEqual((done.returncode, done.stdout), (2, ""))
-            self.assertIn("rt check program_main failed", done.stderr)
+            self.assertIn("tools/build.sh program_main failed", done.stderr)
 
     @unittest.skipUnless(PROGRAM.is_file(), "target/bin/program_main is not made yet")
     def test_worked_session(self):

@@ -5,8 +5,8 @@
 
 tools/build_archives.sh calls it. The functions themselves stay as they are. Only this is changed:
 
-- The lines that name the machine go, so that clang's --target decides; so do the attributes target-cpu and
-  probe-stack, which are x86-64's. --small adds the attribute that -Os gives to C.
+- The lines that name the machine go, so that clang's --target decides; so do the attributes target-cpu, probe-stack
+  and stack-probe-size, which are x86-64's. --small adds the attribute that -Os gives to C.
 - The exported functions get the calling convention of the C ABI of RISC-V. The toolchain writes each as a few lines
   around the real function, for x86-64:
     - A result narrower than a register: the ABI wants it extended, 8 and 16 bits with zeros, 32 bits with their
@@ -31,9 +31,11 @@ import sys
 
 MACHINES = {"rv32imac": 32, "rv64imac": 64}
 
-# With any of these in a module it would not mean the same where a pointer has four bytes, or not be RISC-V's at all.
+# With any of these in a module it would not mean the same where a pointer has four bytes, or not be RISC-V's at all. A
+# constant of bytes is the same everywhere.
 FORBIDDEN = re.compile(
-    r"\b(ptrtoint|inttoptr|addrspacecast|va_arg|blockaddress|indirectbr|thread_local|addrspace|asm)\b(?!\")|^@|"
+    r"\b(ptrtoint|inttoptr|addrspacecast|va_arg|blockaddress|indirectbr|thread_local|addrspace|asm)\b(?!\")|"
+    r"^@(?!static\.\d+ = private unnamed_addr constant \[\d+ x i8\] c\"[^\"\n]*\", align 1$)|"
     r"\bgetelementptr (?!(?:(?:inbounds|nuw|nusw) )*i8,).*", re.MULTILINE)
 SCALAR = re.compile(r"(ptr|i64|i32|i16|i8|i1) noundef (%\S+)")
 IN_MEMORY = re.compile(r"ptr noundef byval\(\[(\d+) x i8\]\) align (\d+) (%\S+)")
@@ -136,7 +138,7 @@ def retarget(module, bits, small):
     if forbidden:
         raise Refused(f"the module has '{forbidden[0]}', which is not the same on every machine")
     module = re.sub(r"^target (datalayout|triple) = .*\n", "", module, flags=re.MULTILINE)
-    module = re.sub(r' "(target-cpu|probe-stack)"="[^"]*"', "", module)
+    module = re.sub(r' "(target-cpu|probe-stack|stack-probe-size)"="[^"]*"', "", module)
     if small:
         module = re.sub(r"^(attributes #\d+ = \{ nounwind) \}", r"\1 optsize }", module, flags=re.MULTILINE)
     exported = [found[2] for found in EXPORT.finditer(module)]

@@ -66,7 +66,7 @@ def build():
     LOG.parent.mkdir(exist_ok=True)
     print(f"proving and linking program_main; the log is {LOG.relative_to(ROOT)}", file=sys.stderr)
     with LOG.open("wb") as log:
-        done = subprocess.run(["rt", "check", "program_main"], cwd=ROOT, stdout=log, stderr=log, check=False)
+        done = subprocess.run([ROOT / "tools" / "build.sh", "program_main"], stdout=log, stderr=log, check=False)
     return done.returncode == 0
 
 
@@ -90,7 +90,7 @@ def arguments():
                                      formatter_class=argparse.RawDescriptionHelpFormatter)
     parser.add_argument("steps", nargs="?", type=Path, help="the program's input")
     parser.add_argument("answers", nargs="?", type=Path, help="the program's output for it")
-    parser.add_argument("--build", action="store_true", help="run `rt check program_main` first")
+    parser.add_argument("--build", action="store_true", help="run `tools/build.sh program_main` first")
     parser.add_argument("--program", type=Path, default=PROGRAM, help="the program that is run")
     return parser.parse_args()
 
@@ -108,7 +108,7 @@ def main():
     given = arguments()
     try:
         if given.build and not build():
-            raise OSError(f"rt check program_main failed, see {LOG.relative_to(ROOT)}")
+            raise OSError(f"tools/build.sh program_main failed, see {LOG.relative_to(ROOT)}")
         data, titles = (given.steps.read_bytes(), None) if given.steps else worked_session()
         output = output_of(given, data)
     except OSError as error:

@@ -38,7 +38,7 @@ def exchange_over(link: Link, line: Line) -> Exchange:
 def program_path() -> Path:
     path = repository() / PROGRAM
     if not path.is_file():
-        raise CommandError(f"no {path}: make it with `rt check program_main`")
+        raise CommandError(f"no {path}: make it with `tools/build.sh program_main`")
     return path
 
 

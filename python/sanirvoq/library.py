@@ -56,7 +56,7 @@ def archive_path() -> Path:
     folder = Path(named) if named else repository() / "target" / "staticlib"
     path = folder / ARCHIVE
     if not path.is_file():
-        raise LibraryError(f"no {ARCHIVE} in {folder}: make it with `rt staticlib sanirvoq` in the repository, "
+        raise LibraryError(f"no {ARCHIVE} in {folder}: make it with `tools/build.sh sanirvoq` in the repository, "
                            "or name its folder in SANIRVOQ_LIB")
     return path
 

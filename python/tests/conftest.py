@@ -91,7 +91,7 @@ def pair() -> Iterator[Pair]:
 @pytest.fixture
 def program(required: Callable[[bool, str], None]) -> Iterator[Head]:
     """The program of document 01 as a head."""
-    required((REPOSITORY / "target" / "bin" / "program_main").is_file(), "make it with `rt check program_main`")
+    required((REPOSITORY / "target" / "bin" / "program_main").is_file(), "make it with `tools/build.sh program_main`")
     made = connect("program", Line())
     yield made
     made.close()

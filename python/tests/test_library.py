@@ -14,7 +14,7 @@ from terminal import Person
 def test_no_archive(command: Callable[..., Ran], tmp_path: Path) -> None:
     ran = command("--head", "practice", "read", "0x1000", "4", env={"SANIRVOQ_LIB": str(tmp_path)})
     assert ran.status == 5
-    assert "no libsanirvoq.a in" in ran.err and "rt staticlib sanirvoq" in ran.err
+    assert "no libsanirvoq.a in" in ran.err and "tools/build.sh sanirvoq" in ran.err
     assert len(ran.err.splitlines()) == 1 and not ran.out
 
 
@@ -51,7 +51,7 @@ def test_a_prompt_without_the_archive(tmp_path: Path, monkeypatch: pytest.Monkey
     person = Person(tmp_path, "practice")
     person.sees(lambda: False)
     person.child.close()
-    assert person.child.exitstatus == 5 and "rt staticlib sanirvoq" in person.text()
+    assert person.child.exitstatus == 5 and "tools/build.sh sanirvoq" in person.text()
 
 
 def test_a_prompt_without_a_terminal(command: Callable[..., Ran]) -> None:

@@ -1,11 +1,11 @@
-//! Links `libsanirvoq.a`, which `rt staticlib sanirvoq` writes to `target/staticlib`. `SANIRVOQ_LIB`
+//! Links `libsanirvoq.a`, which `tools/build.sh sanirvoq` writes to `target/staticlib`. `SANIRVOQ_LIB`
 //! names another folder that holds it, by an absolute path; where it is set and empty, none is linked.
 //!
 //! With no archive the crate still builds, documents and is checked, and says so by a warning; a
 //! program that calls the stub then does not link. The feature `stand-in` gives tests something to
 //! link that only says what is missing.
 //!
-//! The feature `measure` also links `libbench_read.a`, which `rt staticlib bench_read` writes, of the
+//! The feature `measure` also links `libbench_read.a`, which `tools/build.sh bench_read` writes, of the
 //! same folder. It does not build with either archive missing.
 
 use std::path::{Path, PathBuf};
@@ -22,10 +22,10 @@ fn main() {
         Some(folder) => format!("{} is not there", folder.join(ARCHIVE).display()),
         None => "SANIRVOQ_LIB is empty".to_owned(),
     };
-    assert!(!feature("MEASURE"), "{missing}: run `rt staticlib sanirvoq` first");
+    assert!(!feature("MEASURE"), "{missing}: run `tools/build.sh sanirvoq` first");
     println!(
         "cargo::warning={missing}: what calls the stub does not link. Run \
-         `rt staticlib sanirvoq`, or name the archive's folder by SANIRVOQ_LIB"
+         `tools/build.sh sanirvoq`, or name the archive's folder by SANIRVOQ_LIB"
     );
     if feature("STAND_IN") {
         println!("cargo::rustc-cfg=stand_in");
@@ -43,7 +43,7 @@ fn link(folder: &Path) {
     println!("cargo::metadata=archive={}", folder.join(ARCHIVE).display());
     if feature("MEASURE") {
         let reads = folder.join(READS);
-        let missing = "is not there: run `rt staticlib bench_read` first";
+        let missing = "is not there: run `tools/build.sh bench_read` first";
         assert!(reads.is_file(), "{} {missing}", reads.display());
         println!("cargo::rustc-link-lib=static=bench_read");
         println!("cargo::rerun-if-changed={}", reads.display());

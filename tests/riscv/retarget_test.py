@@ -10,7 +10,7 @@ sys.path.insert(0, str(Path(__file__).resolve().parent.parent.parent / "tools"))
 from retarget_module import Refused, retarget  # noqa: E402
 
 HEAD = 'target datalayout = "e-m:e"\ntarget triple = "x86_64-unknown-linux-gnu"\n\n'
-TAIL = 'attributes #0 = { nounwind "probe-stack"="inline-asm" "target-cpu"="x86-64" }\n'
+TAIL = 'attributes #0 = { nounwind "probe-stack"="inline-asm" "stack-probe-size"="3072" "target-cpu"="x86-64" }\n'
 INSIDE = "define internal i8 @\"a::b\"(i8 %a0) #0 {\nstart:\n  ret i8 %a0\n}\n\n"
 
 
@@ -72,6 +72,12 @@ class Shapes(unittest.TestCase):
         text, _ = retarget(module("define void @f()", "ret void"), 32, True)
         self.assertIn("attributes #0 = { nounwind optsize }", text)
 
+    def test_constants_of_bytes_stay(self):
+        constant = '@static.0 = private unnamed_addr constant [3 x i8] c"0x\\00", align 1\n'
+        for bits in (32, 64):
+            text, _ = retarget(constant + module("define void @f()", "ret void"), bits, False)
+            self.assertIn(constant, text)
+
 
 class Refusals(unittest.TestCase):
     def refused(self, line, *body, text=None):
@@ -96,7 +102,9 @@ class Refusals(unittest.TestCase):
         self.refused("define void @f(ptr noundef %a0)", "%r0 = getelementptr ptr, ptr %a0, i64 1", "ret void")
         self.refused("define void @f(ptr noundef %a0)", "%r0 = getelementptr inbounds { ptr, i64 }, ptr %a0, i64 1")
         self.refused("define void @f()", 'call void asm sideeffect "nop", ""()', "ret void")
-        self.refused("", text="@table = constant [2 x ptr] zeroinitializer\n" + module("define void @f()", "ret void"))
+        for data in ("constant [2 x ptr] zeroinitializer", "private unnamed_addr constant [2 x i16] zeroinitializer",
+                     'private unnamed_addr global [1 x i8] c"0", align 1'):
+            self.refused("", text=f"@static.0 = {data}\n" + module("define void @f()", "ret void"))
 
     def test_a_module_with_no_export(self):
         self.refused("", text=HEAD + INSIDE + TAIL)

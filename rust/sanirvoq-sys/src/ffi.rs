@@ -322,7 +322,7 @@ macro_rules! exports {
             pub unsafe extern "C" fn $name($(_: $type),*) -> $result {
                 panic!(
                     "{} is not linked: libsanirvoq.a was not there when this was built. Run \
-                     `rt staticlib sanirvoq`, or name its folder by SANIRVOQ_LIB",
+                     `tools/build.sh sanirvoq`, or name its folder by SANIRVOQ_LIB",
                     stringify!($name)
                 )
             }

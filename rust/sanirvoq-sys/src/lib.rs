@@ -1,4 +1,4 @@
-//! The archive of the proved debug stub, `libsanirvoq.a`, which `rt staticlib sanirvoq` writes from
+//! The archive of the proved debug stub, `libsanirvoq.a`, which `tools/build.sh sanirvoq` writes from
 //! what the checker proved.
 //!
 //! [`ffi`] has its functions and records, as `include/sanirvoq.h` has them; [`call`] calls them over

@@ -1,6 +1,6 @@
 //! The proved debug stub, for kernels in Rust.
 //!
-//! The stub itself is the archive `libsanirvoq.a`, which `rt staticlib sanirvoq` writes from what the
+//! The stub itself is the archive `libsanirvoq.a`, which `tools/build.sh sanirvoq` writes from what the
 //! checker proved. This crate calls it with slices and answers with enums, and has no code of the
 //! stub. It has no unsafe code either: that is in [`sanirvoq_sys`], which also says how the archive is
 //! found.
