@@ -2,16 +2,19 @@
 """Brings the repository's own definitions and lemmas to today's spelling: words in snake case.
 
 usage: respell.py [--map FILE]           at the top of the repository, after turn.sh; FILE gets the map
-       respell.py --by FILE [CRATE..]    by the map of an earlier run; only these crates' files, or all with README.md and docs/
+       respell.py --by FILE [CRATE..]    by the map of an earlier run; only these crates' files, or all with README.md
+                                         and docs/
 
-It reads the declarations of crates/*/specs and proofs (definitions, lemmas, fields of records, constructors of data), makes a
-map from old to new names, prints what falls together, and replaces the names in .antt files, in .rt files, in must-fail edits
-and, between backticks, in README.md and docs/. Names that Rattle makes (goals, steps) and names of src/ keep their spelling.
+It reads the declarations of crates/*/specs and proofs (definitions, lemmas, fields of records, constructors of data),
+makes a map from old to new names, prints what falls together, and replaces the names in .antt files, in .rt files, in
+must-fail edits and, between backticks, in README.md and docs/. Names that Rattle makes (goals, steps) and names of src/
+keep their spelling.
 """
 import glob, os, re, sys
 
 NAME = r"[^\s(){}\[\];,.:@\"\u2983\u2984\u27e8\u27e9]+"
-DECL = re.compile(r"^( *)((?:(?:abbrev|unfoldable|pub|record|data) )*)(" + NAME + r")((?: ?\([^)]*\)| ?\{[^}]*\})*) :(?=\s|$)")
+WORDS = r"((?:(?:abbrev|unfoldable|pub|record|data) )*)"
+DECL = re.compile(r"^( *)" + WORDS + "(" + NAME + r")((?: ?\([^)]*\)| ?\{[^}]*\})*) :(?=\s|$)")
 SKIP = {"where", "let", "use", "module", "open", "--"}
 
 
@@ -44,11 +47,7 @@ def main():
         for f in files("crates/*/proofs/**/Answers.antt", "crates/*/proofs/**/Invariants.antt"):
             goals |= set(re.findall(r"(?m)^(?:abbrev )?pub (\S+) : goal\.", open(f, encoding="utf-8").read()))
         return put_all(table, goals, only)
-    rt_names = set()
-    for f in files("crates/*/src/**/*.rt"):
-        for m in re.finditer(r"\bfn (\w+)|\b(?:struct|enum|trait) (\w+)|^\s+(?:pub )?(\w+): ", open(f, encoding="utf-8").read(), re.M):
-            rt_names.add(next(g for g in m.groups() if g))
-    decl, level, goals = {}, {}, set()
+    decl, goals = {}, set()
     for f in files("crates/*/specs/**/*.antt", "crates/*/proofs/**/*.antt"):
         for line in open(f, encoding="utf-8"):
             m = DECL.match(line)
@@ -94,7 +93,7 @@ def main():
 
 
 def put_all(table, goals, only):
-    # a name that was in snake case already and gives way to a definition: only in .antt files, and not in a module's path
+    # a name that was in snake case already and gives way to a definition: only in .antt files, and not in a path
     plain = {n for n in table if n == new_name(n)}
     token = re.compile(r"(?<![\w'₀-₉◌-])(goal\.(?:at\.)?|c\.|l\.)?([A-Za-z][\w'₀-₉-]*)(?![\w'₀-₉-])")
 
@@ -112,7 +111,8 @@ def put_all(table, goals, only):
                 return m.group(0)
         return (m.group(1) or "") + table.get(n, n)
 
-    for f in files("crates/*/specs/**/*.antt", "crates/*/proofs/**/*.antt", "crates/*/src/**/*.rt", "crates/*/must-fail/*.edit"):
+    of_crates = "specs/**/*.antt", "proofs/**/*.antt", "src/**/*.rt", "must-fail/*.edit"
+    for f in files(*(f"crates/*/{it}" for it in of_crates)):
         if only is not None and f.split("/")[1] not in only:
             continue
         t = open(f, encoding="utf-8").read()
