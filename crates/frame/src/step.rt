@@ -301,7 +301,10 @@ impl Reader {
     pub fn goes_on(&self, c: u8) -> bool
         ensures { result ≡ goes_on self.now c }
     {
-        128 <= c && !self.last_due() && self.in_part()
+        if c < 128 || !self.in_part() {
+            return false;
+        }
+        !self.last_due()
     }
 
     /// The reader that `transition` gives for such a byte: most bytes are such, and nothing is answered.
